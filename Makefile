@@ -81,12 +81,13 @@ fleet-test: build
 check-real: build
 	tests/files.py bin/fdr
 	tests/pair.py bin/fdrpair bin/fdr --cases
+	tests/fail_io.py bin/fdr bin/fdrpair --built
 
 # Refuses the built programs their memory, one request at a time.
 check-memory: build
 	tests/memory.py bin/fdr bin/fdrpair
 
-# Has each read, write and sync of the cases fail in turn, or move one byte alone, with the built programs and the trial build.
+# Has each call on a file or a stream of the cases fail in turn, or end early, with the built programs and the trial build.
 fail-io: build
 	tests/fail_io.py bin/fdr bin/fdrpair
 

@@ -163,7 +163,7 @@ def trace_of(run: Run, programs: Mapping[str, pathlib.Path]) -> str:
     if run.fault:
         numbers = [one.number for one in asked if one.call == run.fault.call]
         if len(numbers) < run.fault.number:
-            return f"there is no call {run.fault.call} number {run.fault.number}\n"
+            raise SystemExit(f"calls: {run.name} has no call {run.fault.call} number {run.fault.number}")
         inject = f"{run.fault.call}:{run.fault.how}:when={numbers[run.fault.number - 1]}{run.fault.following}"
         asked, status = traced(run, programs, inject)
     return "".join(f"{line}\n" for line in [*(one.line for one in asked), f"end {status}"])
@@ -183,6 +183,8 @@ EMPTY, HELD = empty_image(16, 64), recorded(empty_image(16, 64), BITS)
 FILES = {"t1.csv": T1, "ordinary.csv": ORDINARY, "empty.img": EMPTY, "a.img": HELD, "b.img": HELD}
 FILES |= {"old.img": recorded(empty_image(16, 64, version=VERSION_1), BITS), "damaged.img": damaged(HELD), "short.img": HELD[:-1]}
 FILES |= {"other.img": empty_image(16, 65), "apart.img": recorded(EMPTY, t1_frame(1, 5)), "rules.csv": b"LOW,ALT,below,6,1\n"}
+# Images of which a part alone is read ahead.
+FILES |= {"large.img": recorded(empty_image(20, 4096), t1_frame(0, 5) * 200), "few.img": empty_image(20, 4096)}
 EIO, FULL = "error=EIO", "error=ENOSPC"
 
 
@@ -204,7 +206,11 @@ def runs_of_fdr() -> Iterator[Run]:
     yield Run("record", record, TRACE)
     yield Run("record_in_an_empty_image", ["record", "t1.csv", "empty.img"], TRACE)
     yield Run("record_where_the_lock_is_held", record, TRACE, Fault("flock", 1, "error=EAGAIN"))
-    yield Run("record_where_the_first_sync_fails", record, TRACE, Fault("fdatasync", 1, EIO))
+    yield Run("record_where_the_lock_fails", record, TRACE, Fault("flock", 1, EIO))
+    yield Run("record_where_there_are_no_locks", record, TRACE, Fault("flock", 1, "error=EOPNOTSUPP"))
+    yield Run("record_where_the_look_fails", record, TRACE, Fault("statx", 1, EIO))
+    yield Run("record_where_the_first_sync_fails", record, TRACE, Fault("fsync", 1, EIO))
+    yield Run("record_where_the_sync_of_the_folder_fails", record, TRACE, Fault("fsync", 2, EIO))
     yield Run("record_where_a_sync_fails", record, TRACE, Fault("fdatasync", 5, EIO))
     yield Run("record_where_a_write_fails", record, TRACE, Fault("pwrite64", 3, EIO))
     yield Run("record_where_a_write_comes_short", record, TRACE, Fault("pwrite64", 2, "retval=1"))
@@ -213,7 +219,7 @@ def runs_of_fdr() -> Iterator[Run]:
     yield Run("record_where_a_line_is_lost", record, TRACE, Fault("write", 2, "error=EPIPE"))
     yield Run("recover", ["recover", "a.img"])
     yield Run("upgrade", ["upgrade", "old.img"])
-    yield Run("upgrade_where_a_sync_fails", ["upgrade", "old.img"], fault=Fault("fdatasync", 1, EIO))
+    yield Run("upgrade_where_a_sync_fails", ["upgrade", "old.img"], fault=Fault("fsync", 1, EIO))
     yield Run("list", ["list", "t1.csv", "a.img"])
     yield Run("list_a_short_image", ["list", "t1.csv", "short.img"])
     yield Run("list_where_a_read_fails", ["list", "t1.csv", "a.img"], fault=Fault("pread64", 1, EIO))
@@ -235,10 +241,11 @@ def runs_of_pair() -> Iterator[Run]:
         ("a_block_differs", ["record", "t1.csv", "a.img", "apart.img"], None),
         ("one_is_missing", ["record", "t1.csv", "a.img", "none.img"], None),
         ("a_lock_is_held", both, Fault("flock", 2, "error=EAGAIN")),
-        ("the_first_sync_fails", both, Fault("fdatasync", 1, EIO)),
+        ("a_look_fails", both, Fault("statx", 1, EIO)),
+        ("the_first_sync_fails", both, Fault("fsync", 1, EIO)),
         ("a_later_sync_fails", both, Fault("fdatasync", 8, EIO)),
         ("a_write_fails", both, Fault("pwrite64", 6, EIO)),
-        ("the_lead_fails", ["record", "t1.csv", "a.img", "empty.img"], Fault("pread64", 68, EIO)),
+        ("the_lead_fails", ["record", "t1.csv", "large.img", "few.img"], Fault("pread64", 26, EIO)),
     ):
         yield Run(f"pair_{name}", words, TRACE, fault, "fdrpair")
 

@@ -36,6 +36,7 @@ EXAMPLES = TOP / "examples"
 MEMORY = pathlib.Path("/dev/shm")  # where it is there, runs have their folders in it, so that no sync waits for a disk
 SHOWN = 400  # bytes of an answer
 NO_ANSWER = -1
+NO_TABLE, NO_IMAGE = b"fdr: table cannot be read\n", b"fdr: image: too small\n"
 
 
 class Outcome(NamedTuple):
@@ -68,7 +69,16 @@ def by_reader(case: Case) -> Outcome:
     files = dict(case.files)
     if answer.image is not None:
         files[reader.words_of(case.words).paths[-1]] = answer.image
-    return Outcome(answer.status, answer.output, answer.errors, files)
+    return Outcome(answer.status, answer.output, missing_file(case, answer.errors) + answer.errors, files)
+
+
+def missing_file(case: Case, errors: bytes) -> bytes:
+    """The line that says which file isn't there, before an answer for want of it."""
+    if errors not in (NO_TABLE, NO_IMAGE):
+        return b""
+    paths = reader.words_of(case.words).paths
+    path = paths[0] if errors == NO_TABLE else paths[-1]
+    return b"" if path in case.files else f"fdr: {path}: no such file\n".encode()
 
 
 # --- cases

@@ -1,17 +1,20 @@
 #!/usr/bin/env python3
-"""Has each read, write and sync of each case fail in turn, or move one byte alone, and looks at what the programs answer.
+"""Has each call on a file or a stream of each case fail in turn, and looks at what the programs answer.
 
-    tests/fail_io.py FDR FDRPAIR [--only WORD]
+    tests/fail_io.py FDR FDRPAIR [--only WORD] [--built]
 
-The cases are those of examples/cases, and recordings in two images. First the built programs are run: each case once to count
-its calls, and then once for each call that fails, and for each read or write of several bytes that moves one. The calls
-are counted by fail.c, which `cc` compiles and which is loaded before the C library. Then the trial build of the kit is run,
-which looks for wrong accesses and sums too: `rt try` with --fail-io, --short-io and --fail-alloc for each call in turn, where
-the kit has them. Where it takes one number alone after --fail-alloc, some allocations are refused, each in all cases of one build.
+The cases are those of examples/cases, each other command, and recordings in two images. First the built programs are run: each
+case once to count its calls, and then once for each open, look, lock, read, write, sync, cut and removal that fails, and for
+each read or write of several bytes that moves one, is interrupted, or finds the end of an image. The calls are counted by
+fail.c, which `cc` compiles and which is loaded before the C library. Then the trial build of the kit is run, which looks for
+wrong accesses and sums too: `rt try` with --fail-io, --short-io and --fail-alloc for each call in turn, where the kit has them.
+Where it takes one number alone after --fail-alloc, some allocations are refused, each in all cases of one build. With --built
+the trial build is left out.
 
-An answer has to be that of a fault (the table, the input, the output or the disk), or the usual one with the same output and
-files. Where one byte was moved it has to be the usual one. A refused allocation has to be answered by status 12 without output,
-or as usual. A recording in two images goes on with one, and says so; what they hold then is looked at by tests/pair_faults.py.
+An answer has to be that of a fault (the table, the input, the output or the disk), with the line before it that says why, or
+the usual one with the same output and files. Where one byte was moved, or a call was interrupted, it has to be the usual one.
+A refused allocation has to be answered by status 12 without output, or as usual. A recording in two images goes on with one,
+and says so; what they hold then is looked at by tests/pair_faults.py.
 
 It prints a table of counts, and a line for each answer that is neither, and ends with 0 where there is none.
 """
@@ -36,7 +39,10 @@ from inputs import TOP
 from memory import LIMIT, Answer, Files, Programs, Work, pair_works, stored_works
 
 SOURCE = TOP / "tests" / "fail.c"
-NUMBERS = struct.Struct("=QQQQ")  # calls, those of several bytes, the one that fails, the one that moves one byte
+# calls, those of several bytes, the one that fails, and the ones that move one byte, are interrupted, or find the end
+NUMBERS = struct.Struct("=6Q")
+WAYS = ("moves one byte", "is interrupted", "finds the end")
+FAILED = ": input/output error"  # what is said of a call that failed; where an image ended early none did
 OF_FAULTS = {"fdr": (8, 9, 10), "fdrpair": (8, 10, 18)}
 ALLOC = "--fail-alloc"
 KINDS = ("--fail-io", "--short-io", ALLOC)
@@ -58,28 +64,30 @@ class Ended:
     long_calls: int
 
 
-def run(programs: Programs, library: pathlib.Path, work: Work, failing: int = 0, short: int = 0) -> Ended:
-    """Runs a work in a folder of its own, in which one call fails or moves one byte alone."""
+def run(programs: Programs, library: pathlib.Path, work: Work, failing: int = 0, way: str = "", number: int = 0) -> Ended:
+    """Runs a work in a folder of its own, in which one call fails, or one of several bytes goes another way."""
     with tempfile.TemporaryDirectory(prefix="fdr_fail_io_") as top:
         room, numbers, given = (pathlib.Path(top) / name for name in ("room", "numbers", "given"))
         room.mkdir()
         for name, data in work.files.items():
             (room / name).write_bytes(data)
-        numbers.write_bytes(NUMBERS.pack(0, 0, failing, short))
+        numbers.write_bytes(NUMBERS.pack(0, 0, failing, *(number if way == one else 0 for one in WAYS)))
         given.write_bytes(work.given)
         environ = {**os.environ, "LD_PRELOAD": str(library), "FAILING": str(numbers)}
         with open(given, "rb") as source:
             words = [str(programs[work.program]), *work.words]
             ended = subprocess.run(words, stdin=source, capture_output=True, cwd=room, env=environ, timeout=LIMIT)
-        calls, long_calls, _, _ = NUMBERS.unpack(numbers.read_bytes())
+        calls, long_calls, *_ = NUMBERS.unpack(numbers.read_bytes())
         files = {path.name: path.read_bytes() for path in room.iterdir()}
         return Ended((ended.returncode, ended.stdout, ended.stderr), files, calls, long_calls)
 
 
-def kind_of(ended: Ended, usual: Ended, work: Work) -> str:
-    """What a run answered: as usual, a fault, or something else."""
+def kind_of(ended: Ended, usual: Ended, work: Work, cause: str) -> str:
+    """What a run answered: as usual, a fault with a line of this cause, or something else."""
     if ended.answer[0] in OF_FAULTS[work.program] or b"fault " in ended.answer[2] and work.program == "fdrpair":
-        return "fault" if ended.answer != usual.answer else "as usual"
+        lines = ended.answer[2].decode().splitlines()
+        is_told = any(line.startswith(f"{work.program}: ") and line.endswith(cause) for line in lines)
+        return "as usual" if ended.answer == usual.answer else "fault" if is_told else "another"
     return "as usual" if ended.answer[:2] == usual.answer[:2] and ended.files == usual.files else "another"
 
 
@@ -92,24 +100,28 @@ def tried(programs: Programs, works: list[Work]) -> tuple[int, int, dict[str, in
     """Tries the works on the built programs, and answers how many runs there were, how many gave another answer, and the status
     that each work ends with, by its name as a case."""
     count, wrong, statuses = 0, 0, {}
-    print("| work | status | calls | one fails: fault | as usual | one byte moved: as usual |\n|---|---:|---:|---:|---:|---:|")
+    print("| work | status | calls | one fails: fault | as usual | one byte moved, interrupted: as usual | an early end: fault, as usual |")
+    print("|---|---:|---:|---:|---:|---:|---:|")
     with tempfile.TemporaryDirectory(prefix="fdr_fail_io_") as top, futures.ThreadPoolExecutor(os.cpu_count()) as pool:
         library = pathlib.Path(top) / "fail.so"
         subprocess.run(["cc", "-shared", "-fPIC", "-O1", "-o", library, SOURCE], check=True)
         for work in works:
             usual = run(programs, library, work)
             statuses[work.name.replace(" ", "_")] = usual.answer[0]
-            failing = [(f"call {number} fails", pool.submit(run, programs, library, work, number, 0)) for number in numbers_of(usual.calls)]
-            short = [(f"call {number} moves one byte", pool.submit(run, programs, library, work, 0, number)) for number in numbers_of(usual.long_calls)]
-            kinds = [(what, kind_of(one.result(), usual, work), one.result()) for what, one in failing]
-            of_short = [(what, kind_of(one.result(), usual, work), one.result()) for what, one in short]
-            count += len(kinds) + len(of_short)
-            for what, kind, ended in kinds + of_short:
-                if kind == "another" or kind == "fault" and "moves" in what:
+            failing = [(f"call {number} fails", pool.submit(run, programs, library, work, number)) for number in numbers_of(usual.calls)]
+            others = [
+                (f"call {number} {way}", pool.submit(run, programs, library, work, 0, way, number)) for way in WAYS for number in numbers_of(usual.long_calls)
+            ]
+            causes = {what: "" if what.endswith(WAYS[2]) else FAILED for what, _ in failing + others}
+            kinds = [(what, kind_of(one.result(), usual, work, causes[what]), one.result()) for what, one in failing + others]
+            count += len(kinds)
+            for what, kind, ended in kinds:
+                if kind == "another" or kind == "fault" and what.endswith(WAYS[:2]):
                     wrong += 1
                     print(f"{work.name}, {what}: status {ended.answer[0]}, {ended.answer[2][-200:]!r}")
-            told = [sum(kind == wanted for _, kind, _ in kinds) for wanted in ("fault", "as usual")]
-            told.append(sum(kind == "as usual" for _, kind, _ in of_short))
+            told = [sum(kind == wanted and what.endswith("fails") for what, kind, _ in kinds) for wanted in ("fault", "as usual")]
+            told.append(sum(kind == "as usual" and what.endswith(WAYS[:2]) for what, kind, _ in kinds))
+            told.append(sum(kind != "another" and what.endswith(WAYS[2]) for what, kind, _ in kinds))
             print(f"| {work.name} | {usual.answer[0]} | {usual.calls} | {' | '.join(map(str, told))} |", flush=True)
     return count, wrong, statuses
 
@@ -222,6 +234,7 @@ def main() -> int:
     words.add_argument("fdr", type=pathlib.Path)
     words.add_argument("fdrpair", type=pathlib.Path)
     words.add_argument("--only", default="", help="the works with this in their names")
+    words.add_argument("--built", action="store_true", help="try the built programs alone")
     given = words.parse_args()
     if not shutil.which("cc"):
         print("skipped: there is no C compiler")
@@ -229,7 +242,7 @@ def main() -> int:
     programs = {"fdr": given.fdr.resolve(), "fdrpair": given.fdrpair.resolve()}
     stored = [work for work in stored_works() if given.only in work.name]
     count, wrong, usual = tried(programs, stored + [work for work in pair_works() if given.only in work.name])
-    found = by_kit(stored, usual)
+    found = by_kit([] if given.built else stored, usual)
     print(f"{count:,} runs and {found.runs:,} of the trial build, {wrong + found.wrong} answers that are another")
     return 1 if wrong + found.wrong else 0
 

@@ -19,6 +19,7 @@ import contextlib
 import os
 import pathlib
 import signal
+import stat
 import subprocess
 import sys
 import time
@@ -106,6 +107,25 @@ SHORT = (4, "fdr: image: shorter than its ring")
 KILLED = (-signal.SIGKILL, "")
 PAST_SIZE = (-signal.SIGXFSZ, "")
 
+# The causes that are told of a fault on the line before the answer.
+HELD = "held by another run"
+NO_PERMISSION = "no permission"
+NO_ROOM = "no room"
+NO_FILE = "no such file"
+A_FOLDER = "is a folder"
+NOT_A_FILE = "is no file"
+SHORTER = "became shorter"
+READ_ONLY_SYSTEM = "read-only file system"
+TOO_LARGE_FILE = "file too large"
+NO_READER = "closed by its reader"
+OTHER_ERROR = "input/output error"
+NOT_READY = "not ready"
+
+
+def why(name: str, cause: str) -> str:
+    """The line that says why a call on this file or stream failed."""
+    return f"fdr: {name}: {cause}"
+
 
 # --- what happens while the program runs
 
@@ -137,7 +157,7 @@ def others_come(place: Place, run: Run) -> None:
     """While an image is recorded in, every other command on it is refused."""
     run.says(text_of(acks(12, 12)))
     for words in (RECORD, DRILL, RECOVER, LIST, SALVAGE, UPGRADE, ["format", "t1.csv", "a.img", *SIZES]):
-        place.expect(words, DISK_FAULT, given=TRACE)
+        place.expect(words, DISK_FAULT, lines=[why("a.img", HELD)], given=TRACE)
     run.feed(TRACE)
 
 
@@ -146,7 +166,7 @@ def readers_come(place: Place, run: Run) -> None:
     run.fills_its_pipe()
     place.expect(RECOVER, DONE, BIG_BITS)
     for words in (RECORD, DRILL, UPGRADE, ["format", "t1.csv", "a.img", *SIZES]):
-        place.expect(words, DISK_FAULT, given=TRACE)
+        place.expect(words, DISK_FAULT, lines=[why("a.img", HELD)], given=TRACE)
 
 
 def is_killed(place: Place, run: Run) -> None:
@@ -191,6 +211,18 @@ def acks_come(place: Place, run: Run) -> None:
         run.says(text_of(acks(12, last)))
 
 
+def gets_mode(bits: int) -> Doer:
+    """The image that is made has this mode."""
+
+    def act(place: Place, run: Run) -> None:
+        run.child.wait()
+        found = stat.S_IMODE((place.room / "new.img").stat().st_mode)
+        if found != bits:
+            raise Mismatch(f"new.img has the mode {found:o} and not {bits:o}")
+
+    return act
+
+
 def table_comes_slowly(place: Place, run: Run) -> None:
     pipe = None
     while pipe is None:
@@ -219,17 +251,18 @@ BIG = all_of(file("every.csv", EVERY), file("a.img", BIG_IMAGE))
 IN_REMOVED = ["sh", "-c", 'mkdir gone; cd gone; rmdir ../gone; exec "$0" "$@"']
 
 
-def writers(stream: Stream, how: str) -> Iterator[Case]:
-    """Each command that writes to standard output, which takes nothing."""
-    yield Case(f"check, {how}", CHECK, NO_OUTPUT, out=stream)
-    yield Case(f"stream, {how}", STREAM, NO_OUTPUT, given=TRACE, out=stream)
-    yield Case(f"listbits, {how}", LISTBITS, NO_OUTPUT, given=BITS, out=stream)
-    yield Case(f"encode, {how}", ENCODE, NO_OUTPUT, given=BITS, out=stream)
-    yield Case(f"decode, {how}", DECODE, NO_OUTPUT, given=LEVELS, out=stream)
-    yield Case(f"recover, {how}", RECOVER, NO_OUTPUT, out=stream)
-    yield Case(f"list, {how}", LIST, NO_OUTPUT, out=stream)
-    yield Case(f"salvage, {how}", SALVAGE, NO_OUTPUT, out=stream)
-    yield Case(f"drill, {how}", DRILL, NO_OUTPUT, lines=acks(12, 18), changes={"a.img": DRILLED}, out=stream)
+def writers(stream: Stream, how: str, cause: str) -> Iterator[Case]:
+    """Each command that writes to standard output, which takes nothing for this cause."""
+    told = [why("standard output", cause)]
+    yield Case(f"check, {how}", CHECK, NO_OUTPUT, lines=told, out=stream)
+    yield Case(f"stream, {how}", STREAM, NO_OUTPUT, lines=told, given=TRACE, out=stream)
+    yield Case(f"listbits, {how}", LISTBITS, NO_OUTPUT, lines=told, given=BITS, out=stream)
+    yield Case(f"encode, {how}", ENCODE, NO_OUTPUT, lines=told, given=BITS, out=stream)
+    yield Case(f"decode, {how}", DECODE, NO_OUTPUT, lines=told, given=LEVELS, out=stream)
+    yield Case(f"recover, {how}", RECOVER, NO_OUTPUT, lines=told, out=stream)
+    yield Case(f"list, {how}", LIST, NO_OUTPUT, lines=told, out=stream)
+    yield Case(f"salvage, {how}", SALVAGE, NO_OUTPUT, lines=told, out=stream)
+    yield Case(f"drill, {how}", DRILL, NO_OUTPUT, lines=[*acks(12, 18), *told], changes={"a.img": DRILLED}, out=stream)
 
 
 def tellers(stream: Stream, how: str) -> Iterator[Case]:
@@ -239,17 +272,19 @@ def tellers(stream: Stream, how: str) -> Iterator[Case]:
     yield Case(f"drill, {how}", DRILL, DONE, DRILL_LINE, changes={"a.img": DRILLED}, err=stream)
 
 
-def readers(stream: Stream, how: str) -> Iterator[Case]:
-    """Each command that reads standard input, which can't be read."""
-    yield Case(f"stream, {how}", STREAM, NO_INPUT, given=stream)
-    yield Case(f"listbits, {how}", LISTBITS, NO_INPUT, given=stream)
-    yield Case(f"encode, {how}", ENCODE, NO_INPUT, given=stream)
-    yield Case(f"decode, {how}", DECODE, NO_INPUT, given=stream)
-    yield Case(f"record, {how}", RECORD, NO_INPUT, lines=acks(12, 12), given=stream)
+def readers(stream: Stream, how: str, cause: str) -> Iterator[Case]:
+    """Each command that reads standard input, which can't be read for this cause."""
+    told = [why("standard input", cause)]
+    yield Case(f"stream, {how}", STREAM, NO_INPUT, lines=told, given=stream)
+    yield Case(f"listbits, {how}", LISTBITS, NO_INPUT, lines=told, given=stream)
+    yield Case(f"encode, {how}", ENCODE, NO_INPUT, lines=told, given=stream)
+    yield Case(f"decode, {how}", DECODE, NO_INPUT, lines=told, given=stream)
+    yield Case(f"record, {how}", RECORD, NO_INPUT, lines=[*acks(12, 12), *told], given=stream)
 
 
-def tables(name: str, answer: Answer, what: str, **how: Any) -> Iterator[Case]:
+def tables(name: str, answer: Answer, what: str, cause: str = "", **how: Any) -> Iterator[Case]:
     """Each command that reads a table, of this name. None but `check` has begun with anything else then."""
+    how = {**how, "lines": [why(name, cause)] if cause else []}
     yield Case(f"check, {what}", ["check", name], answer, **how)
     yield Case(f"stream, {what}", ["stream", name], answer, given=TRACE, **how)
     yield Case(f"listbits, {what}", ["listbits", name], answer, given=BITS, **how)
@@ -260,8 +295,9 @@ def tables(name: str, answer: Answer, what: str, **how: Any) -> Iterator[Case]:
     yield Case(f"drill, {what}", ["drill", name, "a.img", *SEED], answer, **how)
 
 
-def images(name: str, answer: Answer, what: str, formatted: Answer | None = None, **how: Any) -> Iterator[Case]:
+def images(name: str, answer: Answer, what: str, cause: str = "", formatted: Answer | None = None, **how: Any) -> Iterator[Case]:
     """Each command on an image, of this name. `format` may answer something else."""
+    how = {**how, "lines": [why(name, cause)] if cause else []}
     yield Case(f"record, {what}", ["record", "t1.csv", name], answer, given=TRACE, **how)
     yield Case(f"recover, {what}", ["recover", name], answer, **how)
     yield Case(f"list, {what}", ["list", "t1.csv", name], answer, **how)
@@ -275,18 +311,18 @@ def images(name: str, answer: Answer, what: str, formatted: Answer | None = None
 
 
 def stream_cases() -> Iterator[Case]:
-    yield from writers(CLOSED, "output closed")
-    yield from writers(FULL, "output full")
-    yield from writers(GONE, "output without a reader")
-    yield from writers(READ_ONLY, "output open for reading alone")
-    yield from writers(full_pipe, "output a full pipe that doesn't wait")
+    yield from writers(CLOSED, "output closed", OTHER_ERROR)
+    yield from writers(FULL, "output full", NO_ROOM)
+    yield from writers(GONE, "output without a reader", NO_READER)
+    yield from writers(READ_ONLY, "output open for reading alone", OTHER_ERROR)
+    yield from writers(full_pipe, "output a full pipe that doesn't wait", NOT_READY)
     yield from tellers(CLOSED, "standard error closed")
     yield from tellers(FULL, "standard error full")
     yield from tellers(GONE, "standard error without a reader")
-    yield from readers(CLOSED, "input closed")
-    yield from readers(WRITE_ONLY, "input open for writing alone")
-    yield from readers(FOLDER, "input a folder")
-    yield from readers(empty_pipe, "input an empty pipe that doesn't wait")
+    yield from readers(CLOSED, "input closed", OTHER_ERROR)
+    yield from readers(WRITE_ONLY, "input open for writing alone", OTHER_ERROR)
+    yield from readers(FOLDER, "input a folder", A_FOLDER)
+    yield from readers(empty_pipe, "input an empty pipe that doesn't wait", NOT_READY)
     closed: How = {"given": CLOSED, "out": CLOSED, "err": CLOSED}
     yield Case("check, all streams closed", CHECK, NO_OUTPUT, **closed)
     yield Case("format, all streams closed", FORMAT, DONE, changes={"new.img": EMPTY}, **closed)
@@ -316,24 +352,24 @@ def stream_cases() -> Iterator[Case]:
 
 
 def table_cases() -> Iterator[Case]:
-    yield from tables("none.csv", NO_TABLE, "the table isn't there")
-    yield from tables("folder", NO_TABLE, "the table is a folder", makes=subfolder)
+    yield from tables("none.csv", NO_TABLE, "the table isn't there", NO_FILE)
+    yield from tables("folder", NO_TABLE, "the table is a folder", A_FOLDER, makes=subfolder)
     yield from tables("/dev/null", NO_FRAME, "the table is /dev/null")
     yield from tables("/dev/zero", TOO_LARGE, "the table is /dev/zero")
-    yield from tables("t1.csv", NO_TABLE, "the table may not be read", makes=mode("t1.csv", 0o000), user=NOBODY)
-    refused: dict[str, tuple[str, Maker | None]] = {
-        "a file as a folder": ("t1.csv/", None),
-        "a link to no file": ("link", link("none.csv")),
-        "a link to itself": ("link", link("link")),
-        "a socket": ("socket", bound_socket),
-        "memory that can't be read": ("/proc/self/mem", None),
-        "a name of 256 bytes": ("t" * 256, None),
-        "a path of 100,000 bytes": ("t/" * 50_000, None),
-        "a name with a line feed": ("t1.csv\n", None),
+    yield from tables("t1.csv", NO_TABLE, "the table may not be read", NO_PERMISSION, makes=mode("t1.csv", 0o000), user=NOBODY)
+    refused: dict[str, tuple[str, str, Maker | None]] = {
+        "a file as a folder": ("t1.csv/", OTHER_ERROR, None),
+        "a link to no file": ("link", NO_FILE, link("none.csv")),
+        "a link to itself": ("link", OTHER_ERROR, link("link")),
+        "a socket": ("socket", OTHER_ERROR, bound_socket),
+        "memory that can't be read": ("/proc/self/mem", OTHER_ERROR, None),
+        "a name of 256 bytes": ("t" * 256, OTHER_ERROR, None),
+        "a path of 100,000 bytes": ("t/" * 50_000, OTHER_ERROR, None),
+        "a name with a line feed": ("t1.csv\n", NO_FILE, None),
     }
-    for what, (name, makes) in refused.items():
-        yield Case(f"check, the table is {what}", ["check", name], NO_TABLE, makes=makes)
-    closed: How = {"makes": closed_subfolder, "user": NOBODY}
+    for what, (name, cause, makes) in refused.items():
+        yield Case(f"check, the table is {what}", ["check", name], NO_TABLE, lines=[why(name, cause)], makes=makes)
+    closed: How = {"makes": closed_subfolder, "user": NOBODY, "lines": [why("folder/t1.csv", NO_PERMISSION)]}
     yield Case("check, the table's folder is closed", ["check", "folder/t1.csv"], NO_TABLE, **closed)
     yield Case("check, the table is a link to one", ["check", "link"], DONE, REPORT, makes=link("t1.csv"))
     yield Case("check, the table is /dev/stdin", ["check", "/dev/stdin"], DONE, REPORT, given=T1)
@@ -342,36 +378,42 @@ def table_cases() -> Iterator[Case]:
 
 
 def image_cases() -> Iterator[Case]:
-    yield from images("none.img", TOO_SMALL, "the image isn't there")
-    yield from images("none/a.img", TOO_SMALL, "the image's folder isn't there", DISK_FAULT)
-    yield from images("folder", DISK_FAULT, "the image is a folder", DISK_FAULT, makes=subfolder)
-    yield from images("/dev/null", DISK_FAULT, "the image is /dev/null", DISK_FAULT)
-    yield from images("/dev/zero", DISK_FAULT, "the image is /dev/zero", DISK_FAULT)
-    yield from images("/dev/full", DISK_FAULT, "the image is /dev/full", DISK_FAULT)
-    yield from images("pipe", DISK_FAULT, "the image is a named pipe", DISK_FAULT, makes=held_pipe)
-    waiting: How = {"makes": named_pipe, "seconds": 5}
+    yield from images("none.img", TOO_SMALL, "the image isn't there", NO_FILE)
+    yield from images("none/a.img", TOO_SMALL, "the image's folder isn't there", NO_FILE, DISK_FAULT)
+    yield from images("folder", DISK_FAULT, "the image is a folder", A_FOLDER, DISK_FAULT, makes=subfolder)
+    yield from images("/dev/null", DISK_FAULT, "the image is /dev/null", NOT_A_FILE, DISK_FAULT)
+    yield from images("/dev/zero", DISK_FAULT, "the image is /dev/zero", NOT_A_FILE, DISK_FAULT)
+    yield from images("/dev/full", DISK_FAULT, "the image is /dev/full", NOT_A_FILE, DISK_FAULT)
+    yield from images("pipe", DISK_FAULT, "the image is a named pipe", NOT_A_FILE, DISK_FAULT, makes=held_pipe)
+    waiting: How = {"makes": named_pipe, "seconds": 5, "lines": [why("pipe", NOT_A_FILE)]}
     yield Case("recover, the image is a named pipe without a writer", ["recover", "pipe"], DISK_FAULT, **waiting)
     yield Case("list, the image is a named pipe without a writer", ["list", "t1.csv", "pipe"], DISK_FAULT, **waiting)
-    yield from images("socket", DISK_FAULT, "the image is a socket", DISK_FAULT, makes=bound_socket)
-    yield from images("device", DISK_FAULT, "the image is a block device", DISK_FAULT, makes=block_device)
-    yield from images("link", DISK_FAULT, "the image is a link to no file", DISK_FAULT, makes=link("none.img"))
-    yield from images("link", DISK_FAULT, "the image is a link to itself", DISK_FAULT, makes=link("link"))
-    yield from images("i" * 256, DISK_FAULT, "the image is a name of 256 bytes", DISK_FAULT)
-    yield from images("t1.csv", CLOSED_HEADER, "the image is the table", NOT_EMPTY)
+    yield from images("socket", DISK_FAULT, "the image is a socket", NOT_A_FILE, DISK_FAULT, makes=bound_socket)
+    yield from images("device", DISK_FAULT, "the image is a block device", NOT_A_FILE, DISK_FAULT, makes=block_device)
+    yield from images("link", DISK_FAULT, "the image is a link to no file", NO_FILE, DISK_FAULT, makes=link("none.img"))
+    yield from images("link", DISK_FAULT, "the image is a link to itself", OTHER_ERROR, DISK_FAULT, makes=link("link"))
+    yield from images("i" * 256, DISK_FAULT, "the image is a name of 256 bytes", OTHER_ERROR, DISK_FAULT)
+    yield from images("t1.csv", CLOSED_HEADER, "the image is the table", formatted=NOT_EMPTY)
     unreadable: How = {"makes": mode("a.img", 0o000), "user": NOBODY}
-    yield from images("a.img", DISK_FAULT, "the image may not be read", DISK_FAULT, **unreadable)
+    yield from images("a.img", DISK_FAULT, "the image may not be read", NO_PERMISSION, DISK_FAULT, **unreadable)
     closed: How = {"makes": closed_subfolder, "user": NOBODY}
-    yield from images("folder/a.img", DISK_FAULT, "the image's folder is closed", DISK_FAULT, **closed)
+    yield from images("folder/a.img", DISK_FAULT, "the image's folder is closed", NO_PERMISSION, DISK_FAULT, **closed)
     unwritable: How = {"makes": mode("a.img", 0o444), "user": NOBODY}
-    yield Case("record, the image may not be written", RECORD, DISK_FAULT, given=TRACE, **unwritable)
-    yield Case("drill, the image may not be written", DRILL, DISK_FAULT, **unwritable)
+    refused: How = {**unwritable, "lines": [why("a.img", NO_PERMISSION)]}
+    yield Case("record, the image may not be written", RECORD, DISK_FAULT, given=TRACE, **refused)
+    yield Case("drill, the image may not be written", DRILL, DISK_FAULT, **refused)
+    yield Case("upgrade, the image may not be written", UPGRADE, DISK_FAULT, **refused)
     yield Case("recover, the image may not be written", RECOVER, DONE, BITS, **unwritable)
     yield Case("list, the image may not be written", LIST, DONE, SESSION + LISTING, **unwritable)
     yield Case("salvage, the image may not be written", SALVAGE, DONE, RUN + SESSION + LISTING, **unwritable)
-    yield Case("upgrade, the image may not be written", UPGRADE, DISK_FAULT, **unwritable)
-    yield Case("format, the folder may not be written", FORMAT, DISK_FAULT, makes=mode(".", 0o555), user=NOBODY)
-    yield Case("format, a name that ends with /", [*FORMAT[:2], "new.img/", *SIZES], DISK_FAULT)
-    yield Case("format, in a folder that was removed", ["format", "../t1.csv", *FORMAT[2:]], DISK_FAULT, by=IN_REMOVED)
+    closed = {"makes": mode(".", 0o555), "user": NOBODY, "lines": [why("new.img", NO_PERMISSION)]}
+    yield Case("format, the folder may not be written", FORMAT, DISK_FAULT, **closed)
+    yield Case("format, a name that ends with /", [*FORMAT[:2], "new.img/", *SIZES], DISK_FAULT, lines=[why("new.img/", A_FOLDER)])
+    removed: How = {"by": IN_REMOVED, "lines": [why("new.img", NO_FILE)]}
+    yield Case("format, in a folder that was removed", ["format", "../t1.csv", *FORMAT[2:]], DISK_FAULT, **removed)
+    for mask, bits in (("000", 0o640), ("077", 0o600)):
+        made: How = {"by": ["sh", "-c", f'umask {mask}; exec "$0" "$@"'], "does": gets_mode(bits), "changes": {"new.img": EMPTY}}
+        yield Case(f"format, with the mask {mask}", FORMAT, DONE, **made)
     yield Case("format, the image is there", [*FORMAT[:2], "a.img", *SIZES], NOT_EMPTY)
     yield Case("format, the image is an empty file", FORMAT, DONE, makes=file("new.img"), changes={"new.img": EMPTY})
     through = all_of(link("new.img"), file("new.img"))
@@ -405,11 +447,11 @@ def meanwhile_cases() -> Iterator[Case]:
         yield Case(f"recover, the image is {what}", RECOVER, DISK_FAULT, Front(BIG_BITS), **shrunk)
         yield Case(f"list, the image is {what}", LIST_EVERY, DISK_FAULT, Front(BIG_LISTING), **shrunk)
     shrunk = {"changes": {"a.img": recorded(IMAGE, BITS[:384])[:700]}, "does": shrinks_while_recorded_in}
-    yield Case("record, the image is shrunk", RECORD, DISK_FAULT, lines=acks(12, 18), given=PIPE, **shrunk)
+    yield Case("record, the image is shrunk", RECORD, DISK_FAULT, lines=[*acks(12, 18), why("a.img", SHORTER)], given=PIPE, **shrunk)
     whole: How = {"lines": acks(12, 24), "given": PIPE}
     yield Case("record, others come", RECORD, DONE, changes={"a.img": AGAIN}, does=others_come, **whole)
     yield Case("list, others come", LIST_EVERY, DONE, BIG_LISTING, makes=BIG, does=readers_come)
-    lost: How = {"given": PIPE, "does": loses_its_reader}
+    lost: How = {"given": PIPE, "does": loses_its_reader, "lines": [why("standard output", NO_READER)]}
     yield Case("listbits, its reader goes", LISTBITS, NO_OUTPUT, LISTING[:17], **lost)
     killed: How = {"changes": {"a.img": AGAIN}, "does": is_killed, "given": PIPE}
     yield Case("record, killed, and record", RECORD, KILLED, lines=acks(12, 12), **killed)
@@ -422,27 +464,32 @@ def meanwhile_cases() -> Iterator[Case]:
 
 def limit_cases() -> Iterator[Case]:
     five, end_of_five = recorded(EMPTY, BITS[:320]), slot_at(shape_of(EMPTY), 5)
-    only: How = {"makes": file("a.img", EMPTY), "changes": {"a.img": five}, "lines": acks(0, 5), "given": TRACE}
+    only: How = {"makes": file("a.img", EMPTY), "changes": {"a.img": five}, "given": TRACE}
     front: How = {"given": BITS, "out": To("shown"), "changes": {"shown": LISTING[:20]}}
     ignored: How = {"ignores": signal.SIGXFSZ}
     # A limit of the size of files ends a run by a signal, where that isn't ignored.
-    yield Case("format, at a limit of size", FORMAT, DISK_FAULT, **size_limit(1000), **ignored)
+    too_large = [why("new.img", TOO_LARGE_FILE)]
+    yield Case("format, at a limit of size", FORMAT, DISK_FAULT, lines=too_large, **size_limit(1000), **ignored)
     to_fill: How = {"makes": file("new.img"), **size_limit(1000), **ignored}
-    yield Case("format of an empty file, at a limit of size", FORMAT, DISK_FAULT, **to_fill)
-    yield Case("record, at a limit of size", RECORD, DISK_FAULT, **only, **size_limit(end_of_five), **ignored)
-    yield Case("listbits, at a limit of size", LISTBITS, NO_OUTPUT, **front, **size_limit(20), **ignored)
+    yield Case("format of an empty file, at a limit of size", FORMAT, DISK_FAULT, lines=too_large, **to_fill)
+    at_five = [*acks(0, 5), why("a.img", TOO_LARGE_FILE)]
+    yield Case("record, at a limit of size", RECORD, DISK_FAULT, lines=at_five, **only, **size_limit(end_of_five), **ignored)
+    at_twenty = [why("standard output", TOO_LARGE_FILE)]
+    yield Case("listbits, at a limit of size", LISTBITS, NO_OUTPUT, lines=at_twenty, **front, **size_limit(20), **ignored)
     unfinished = {"new.img": bytes(1000)}
     yield Case("format, ended at a limit of size", FORMAT, PAST_SIZE, changes=unfinished, **size_limit(1000))
-    yield Case("record, ended at a limit of size", RECORD, PAST_SIZE, **only, **size_limit(end_of_five))
+    yield Case("record, ended at a limit of size", RECORD, PAST_SIZE, lines=acks(0, 5), **only, **size_limit(end_of_five))
     yield Case("listbits, ended at a limit of size", LISTBITS, PAST_SIZE, **front, **size_limit(20))
     yield Case("check, few descriptors", CHECK, DONE, REPORT, **few_files(4))
     yield Case("check, few descriptors and input closed", CHECK, DONE, REPORT, given=CLOSED, **few_files(4))
-    yield Case("record, few descriptors", RECORD, DISK_FAULT, given=TRACE, **few_files(4))
-    yield Case("list, few descriptors", LIST, DISK_FAULT, **few_files(4))
-    yield Case("format, few descriptors", FORMAT, DISK_FAULT, **few_files(4))
-    yield Case("format, few descriptors for its folder", FORMAT, DISK_FAULT, **few_files(5))
+    yield Case("record, few descriptors", RECORD, DISK_FAULT, lines=[why("a.img", OTHER_ERROR)], given=TRACE, **few_files(4))
+    yield Case("record, few descriptors for its folder", RECORD, DISK_FAULT, lines=[why("a.img", OTHER_ERROR)], given=TRACE, **few_files(5))
+    yield Case("record, as few descriptors as it needs", RECORD, DONE, lines=acks(12, 24), changes={"a.img": AGAIN}, given=TRACE, **few_files(6))
+    yield Case("list, few descriptors", LIST, DISK_FAULT, lines=[why("a.img", OTHER_ERROR)], **few_files(4))
+    yield Case("format, few descriptors", FORMAT, DISK_FAULT, lines=[why("new.img", OTHER_ERROR)], **few_files(4))
+    yield Case("format, few descriptors for its folder", FORMAT, DISK_FAULT, lines=[why("new.img", OTHER_ERROR)], **few_files(5))
     yield Case("format, as few descriptors as it needs", FORMAT, DONE, changes={"new.img": EMPTY}, **few_files(6))
-    yield Case("format, few descriptors and input closed", FORMAT, DISK_FAULT, given=CLOSED, **few_files(5))
+    yield Case("format, few descriptors and input closed", FORMAT, DISK_FAULT, lines=[why("new.img", OTHER_ERROR)], given=CLOSED, **few_files(5))
 
 
 def memory_cases() -> Iterator[Case]:
@@ -553,31 +600,34 @@ def mount_cases() -> Iterator[Case]:
     taken = all_of(inside, filled)
     large = ["format", "t1.csv", "small/new.img", *LARGE]
     record = ["record", "t1.csv", "small/a.img"]
-    yield Case("format, no room", large, DISK_FAULT, makes=small)
-    yield Case("format of an empty file, no room", large, DISK_FAULT, makes=all_of(small, file("small/new.img")))
-    yield Case("format, no room at all", large, DISK_FAULT, makes=taken)
+    no_room = [why("small/new.img", NO_ROOM)]
+    yield Case("format, no room", large, DISK_FAULT, lines=no_room, makes=small)
+    yield Case("format of an empty file, no room", large, DISK_FAULT, lines=no_room, makes=all_of(small, file("small/new.img")))
+    yield Case("format, no room at all", large, DISK_FAULT, lines=no_room, makes=taken)
     whole: How = {"changes": {"small/a.img": AGAIN}, "lines": acks(12, 24), "given": TRACE}
     yield Case("record, no room is left", record, DONE, makes=taken, **whole)
     # The first write, of a block's head and bytes after its gate, ends where the first page ends.
     image, begin = empty_image(64, 4096), HEADER.size + 1
     torn = {"small/a.img": image[:begin] + recorded(image, FIVES[:4096])[begin:PAGE] + image[PAGE:]}
-    lacking: How = {"changes": torn, "lines": acks(0, 0), "given": word_at(0, 5) + end_at(43_000_000)}
+    lacking: How = {"changes": torn, "lines": [*acks(0, 0), why("small/a.img", NO_ROOM)], "given": word_at(0, 5) + end_at(43_000_000)}
     holes = all_of(small, sparse_image("small/a.img", image), filled)
     yield Case("record, no room for an image with holes", record, DISK_FAULT, makes=holes, **lacking)
     big = all_of(BIG, small)
     front: How = {"changes": {"small/shown": Front(BIG_BITS)}, "out": To("small/shown")}
-    yield Case("recover, no room for its output", RECOVER, NO_OUTPUT, makes=big, **front)
+    no_room = [why("standard output", NO_ROOM)]
+    yield Case("recover, no room for its output", RECOVER, NO_OUTPUT, lines=no_room, makes=big, **front)
     front = {"changes": {"small/shown": Front(BIG_LISTING)}, "out": To("small/shown")}
-    yield Case("list, no room for its output", LIST_EVERY, NO_OUTPUT, makes=big, **front)
+    yield Case("list, no room for its output", LIST_EVERY, NO_OUTPUT, lines=no_room, makes=big, **front)
     untold: How = {"changes": {"a.img": AGAIN, "small/said": b""}, "given": TRACE, "err": To("small/said")}
     yield Case("record, no room for its acknowledgements", RECORD, DONE, makes=taken, **untold)
     read_only = all_of(inside, made_read_only)
-    yield Case("format, the file system may only be read", large, DISK_FAULT, makes=read_only)
-    yield Case("record, the file system may only be read", record, DISK_FAULT, given=TRACE, makes=read_only)
+    yield Case("format, the file system may only be read", large, DISK_FAULT, lines=[why("small/new.img", READ_ONLY_SYSTEM)], makes=read_only)
+    may_not = [why("small/a.img", READ_ONLY_SYSTEM)]
+    yield Case("record, the file system may only be read", record, DISK_FAULT, lines=may_not, given=TRACE, makes=read_only)
     yield Case("recover, the file system may only be read", ["recover", "small/a.img"], DONE, BITS, makes=read_only)
     listing = ["list", "t1.csv", "small/a.img"]
     yield Case("list, the file system may only be read", listing, DONE, SESSION + LISTING, makes=read_only)
-    yield Case("upgrade, the file system may only be read", ["upgrade", "small/a.img"], DISK_FAULT, makes=read_only)
+    yield Case("upgrade, the file system may only be read", ["upgrade", "small/a.img"], DISK_FAULT, lines=may_not, makes=read_only)
 
 
 def main() -> int:

@@ -182,10 +182,11 @@ def acts_of(pair: Pair, coming: list[tuple[int, bytes]], missing: int, chance: r
 
 def lines_differ(pair: Pair, ended: Recorded, loss: Loss | None) -> str | None:
     """What is wrong with the lines that aren't acknowledgements, if anything."""
-    wanted = [f"fault {pair.name_of(loss.image)}"] if loss else []
-    if ended.others not in ([], wanted):
+    wanted = [f"fault {pair.name_of(loss.image)}", f"fdrpair: {loss.image.path}: became shorter"] if loss else []
+    # The cause is told at the end, which a run that is killed doesn't reach.
+    if ended.others not in ([], wanted, wanted[: 1 if ended.status else 2]):
         return f"said {ended.others} and not {wanted}"
-    if loss and ended.others != wanted and ended.told and loss.has_to_be_said(ended.told):
+    if loss and not ended.others and ended.told and loss.has_to_be_said(ended.told):
         return f"the {pair.name_of(loss.image)} image was lost, and that wasn't said"
     return None
 

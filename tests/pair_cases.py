@@ -2,7 +2,7 @@
 
 Each has a folder with a table, the images `a.img` and `b.img`, which have the same twelve blocks, and what the case
 adds. The lines of standard error are compared in the order in which they come: the acknowledgements, which disk failed,
-and the answer's text.
+why, and the answer's text.
 """
 
 import fcntl
@@ -51,7 +51,26 @@ PAST_SIZE = (-signal.SIGXFSZ, "")
 OF_FDR = (10, "fdr: disk fault")
 
 FIRST, SECOND = "fault first", "fault second"
+
+# The causes that are told of faults, once a run is over.
+HELD = "held by another run"
+NOT_READY = "not ready"
+NO_PERMISSION = "no permission"
+NO_ROOM = "no room"
+NO_FILE = "no such file"
+A_FOLDER = "is a folder"
+NOT_A_FILE = "is no file"
+SHORTER = "became shorter"
+READ_ONLY_SYSTEM = "read-only file system"
+TOO_LARGE_FILE = "file too large"
+OTHER_ERROR = "input/output error"
+
 WHOLE = {"a.img": AGAIN, "b.img": AGAIN}
+
+
+def why(name: str, cause: str) -> str:
+    """The line that says why a call on this file or stream failed."""
+    return f"fdrpair: {name}: {cause}"
 
 
 def refused(side: str, fault: str) -> Answer:
@@ -174,8 +193,8 @@ def others_come(place: Place, run: Run) -> None:
     run.says(text_of(acks(NEXT, NEXT)))
     for name in ("a.img", "b.img"):
         for words in (["record", "t1.csv", name], ["recover", name], ["list", "t1.csv", name]):
-            place.expect(words, OF_FDR, program=place.beside("fdr"), given=TRACE)
-    place.expect(RECORD, DISK_FAULT, lines=[FIRST, SECOND], given=TRACE)
+            place.expect(words, OF_FDR, lines=[f"fdr: {name}: {HELD}"], program=place.beside("fdr"), given=TRACE)
+    place.expect(RECORD, DISK_FAULT, lines=[FIRST, SECOND, why("a.img", HELD), why("b.img", HELD)], given=TRACE)
     run.feed(TRACE)
 
 
@@ -210,14 +229,15 @@ def acks_come(place: Place, run: Run) -> None:
 # --- the cases
 
 
-def one_fails(what: str, name: str, **how: Any) -> Iterator[Case]:
-    """Either image is this, which is a fault of its disk: the recording goes on with the other."""
+def one_fails(what: str, name: str, cause: str, **how: Any) -> Iterator[Case]:
+    """Either image is this, which is a fault of its disk for this cause: the recording goes on with the other."""
+    told = why(name, cause)
     words = ["record", "t1.csv", name, "b.img"]
-    yield Case(f"the first image is {what}", DONE, [FIRST, *acks(NEXT, AFTER)], words, changes={"b.img": AGAIN}, **how)
+    yield Case(f"the first image is {what}", DONE, [FIRST, *acks(NEXT, AFTER), told], words, changes={"b.img": AGAIN}, **how)
     words = ["record", "t1.csv", "a.img", name]
-    yield Case(f"the second image is {what}", DONE, [SECOND, *acks(NEXT, AFTER)], words, changes={"a.img": AGAIN}, **how)
+    yield Case(f"the second image is {what}", DONE, [SECOND, *acks(NEXT, AFTER), told], words, changes={"a.img": AGAIN}, **how)
     words = ["record", "t1.csv", name, name]
-    yield Case(f"both images are {what}", DISK_FAULT, [FIRST, SECOND], words, **how)
+    yield Case(f"both images are {what}", DISK_FAULT, [FIRST, SECOND, told, told], words, **how)
 
 
 def one_is_refused(what: str, fault: str, image: bytes) -> Iterator[Case]:
@@ -227,10 +247,10 @@ def one_is_refused(what: str, fault: str, image: bytes) -> Iterator[Case]:
     yield Case(f"both images are {what}", refused("first", fault), makes=images(image, image))
     words = ["record", "t1.csv", "folder", "b.img"]
     failed = all_of(images(IMAGE, image), subfolder)
-    yield Case(f"the second image is {what}, and the first disk failed", refused("second", fault), [FIRST], words, makes=failed)
+    yield Case(f"the second image is {what}, and the first disk failed", refused("second", fault), [FIRST, why("folder", A_FOLDER)], words, makes=failed)
     words = ["record", "t1.csv", "a.img", "folder"]
     failed = all_of(images(image, IMAGE), subfolder)
-    yield Case(f"the first image is {what}, and the second disk failed", refused("first", fault), [SECOND], words, makes=failed)
+    yield Case(f"the first image is {what}, and the second disk failed", refused("first", fault), [SECOND, why("folder", A_FOLDER)], words, makes=failed)
 
 
 def word_cases() -> Iterator[Case]:
@@ -278,7 +298,7 @@ def start_cases() -> Iterator[Case]:
     yield Case("the second is too far behind", far_behind("second"), makes=images(longer(IMAGE, 16), IMAGE))
     yield Case("the first is too far behind", far_behind("first"), makes=images(IMAGE, longer(IMAGE, 16)))
     yield Case("the second is empty, and the first went round", far_behind("second"), makes=images(AGAIN, EMPTY))
-    yield Case("the other side is too far behind, and its disk failed", DONE, [SECOND, *acks(28, 40)],
+    yield Case("the other side is too far behind, and its disk failed", DONE, [SECOND, *acks(28, 40), why("b.img", HELD)],
                makes=all_of(images(longer(IMAGE, 16), IMAGE), locked(fcntl.LOCK_EX, "b.img")), changes={"a.img": recorded(longer(IMAGE, 16), BITS)})
     last = with_last(NUMBERS - 3)
     yield Case("two numbers are left", USED_UP, acks(NUMBERS - 2, NUMBERS), makes=images(last, last),
@@ -293,13 +313,13 @@ def refusal_cases() -> Iterator[Case]:
     yield from one_is_refused("shorter than its header says", "shorter than its ring", IMAGE[:-1])
     yield from one_is_refused("without a header", "header closed", bytes(HEADER.size) + IMAGE[HEADER.size :])
     words = ["record", "t1.csv", "none.img", "b.img"]
-    yield Case("the first image isn't there", refused("first", "too small"), words=words)
+    yield Case("the first image isn't there", refused("first", "too small"), [why("none.img", NO_FILE)], words)
     words = ["record", "t1.csv", "a.img", "none.img"]
-    yield Case("the second image isn't there", refused("second", "too small"), words=words)
+    yield Case("the second image isn't there", refused("second", "too small"), [why("none.img", NO_FILE)], words)
     words = ["record", "t1.csv", "none.img", "none.img"]
-    yield Case("neither image is there", refused("first", "too small"), words=words)
+    yield Case("neither image is there", refused("first", "too small"), [why("none.img", NO_FILE)] * 2, words)
     words = ["record", "t1.csv", "a.img", "none/b.img"]
-    yield Case("the second image's folder isn't there", refused("second", "too small"), words=words)
+    yield Case("the second image's folder isn't there", refused("second", "too small"), [why("none/b.img", NO_FILE)], words)
     words = ["record", "t1.csv", "a.img", "t1.csv"]
     yield Case("the second image is the table", refused("second", "header closed"), words=words)
 
@@ -315,7 +335,7 @@ def refusal_cases() -> Iterator[Case]:
     yield Case("both are for other frames", OTHER_WORDS, makes=images(wide, wide))
     old_and_wide = empty_image(16, 64, words=128, version=VERSION_1)
     yield Case("both are of version 1 and for other frames", OTHER_WORDS, makes=images(old_and_wide, old_and_wide))
-    failed: How = {"words": ["record", "t1.csv", "folder", "b.img"], "lines": [FIRST]}
+    failed: How = {"words": ["record", "t1.csv", "folder", "b.img"], "lines": [FIRST, why("folder", A_FOLDER)]}
     yield Case("the second is for other frames, and the first disk failed", OTHER_WORDS, makes=all_of(images(IMAGE, wide), subfolder), **failed)
     old = recorded(empty_image(16, 64, version=VERSION_1), BITS)
     yield Case("both are of version 1", OLD_VERSION, makes=images(old, old))
@@ -340,52 +360,60 @@ def refusal_cases() -> Iterator[Case]:
 
 
 def fault_cases() -> Iterator[Case]:
-    yield from one_fails("a folder", "folder", makes=subfolder)
-    yield from one_fails("/dev/null", "/dev/null")
-    yield from one_fails("/dev/zero", "/dev/zero")
-    yield from one_fails("a named pipe", "pipe", makes=held_pipe)
-    yield from one_fails("a socket", "socket", makes=bound_socket)
-    yield from one_fails("a block device", "device", makes=block_device)
-    yield from one_fails("a link to no file", "link", makes=link("none.img"))
-    yield from one_fails("a link to itself", "link", makes=link("link"))
-    yield from one_fails("a name of 256 bytes", "i" * 256)
-    yield from one_fails("in a closed folder", "folder/a.img", makes=all_of(in_other_hands(), closed_subfolder), user=NOBODY)
+    yield from one_fails("a folder", "folder", A_FOLDER, makes=subfolder)
+    yield from one_fails("/dev/null", "/dev/null", NOT_A_FILE)
+    yield from one_fails("/dev/zero", "/dev/zero", NOT_A_FILE)
+    yield from one_fails("a named pipe", "pipe", NOT_A_FILE, makes=held_pipe)
+    yield from one_fails("a socket", "socket", NOT_A_FILE, makes=bound_socket)
+    yield from one_fails("a block device", "device", NOT_A_FILE, makes=block_device)
+    yield from one_fails("a link to no file", "link", NO_FILE, makes=link("none.img"))
+    yield from one_fails("a link to itself", "link", OTHER_ERROR, makes=link("link"))
+    yield from one_fails("a name of 256 bytes", "i" * 256, OTHER_ERROR)
+    yield from one_fails("in a closed folder", "folder/a.img", NO_PERMISSION, makes=all_of(in_other_hands(), closed_subfolder), user=NOBODY)
 
     for bits, what in ((0o000, "may not be read"), (0o444, "may not be written")):
+        of_first, of_second = why("a.img", NO_PERMISSION), why("b.img", NO_PERMISSION)
         of_both: How = {"user": NOBODY, "makes": in_other_hands(("a.img", bits))}
-        yield Case(f"the first image {what}", DONE, [FIRST, *acks(NEXT, AFTER)], changes={"b.img": AGAIN}, **of_both)
+        yield Case(f"the first image {what}", DONE, [FIRST, *acks(NEXT, AFTER), of_first], changes={"b.img": AGAIN}, **of_both)
         of_both = {"user": NOBODY, "makes": in_other_hands(("b.img", bits))}
-        yield Case(f"the second image {what}", DONE, [SECOND, *acks(NEXT, AFTER)], changes={"a.img": AGAIN}, **of_both)
+        yield Case(f"the second image {what}", DONE, [SECOND, *acks(NEXT, AFTER), of_second], changes={"a.img": AGAIN}, **of_both)
         of_both = {"user": NOBODY, "makes": in_other_hands(("a.img", bits), ("b.img", bits))}
-        yield Case(f"both images: {what}", DISK_FAULT, [FIRST, SECOND], **of_both)
+        yield Case(f"both images: {what}", DISK_FAULT, [FIRST, SECOND, of_first, of_second], **of_both)
 
     for how, what in ((fcntl.LOCK_EX, "recorded in"), (fcntl.LOCK_SH, "read")):
+        of_first, of_second = why("a.img", HELD), why("b.img", HELD)
         held: How = {"makes": locked(how, "a.img"), "changes": {"b.img": AGAIN}}
-        yield Case(f"the first image is {what} by another", DONE, [FIRST, *acks(NEXT, AFTER)], **held)
+        yield Case(f"the first image is {what} by another", DONE, [FIRST, *acks(NEXT, AFTER), of_first], **held)
         held = {"makes": locked(how, "b.img"), "changes": {"a.img": AGAIN}}
-        yield Case(f"the second image is {what} by another", DONE, [SECOND, *acks(NEXT, AFTER)], **held)
-        yield Case(f"both images are {what} by another", DISK_FAULT, [FIRST, SECOND], makes=locked(how, "a.img", "b.img"))
+        yield Case(f"the second image is {what} by another", DONE, [SECOND, *acks(NEXT, AFTER), of_second], **held)
+        both = locked(how, "a.img", "b.img")
+        yield Case(f"both images are {what} by another", DISK_FAULT, [FIRST, SECOND, of_first, of_second], makes=both)
 
-    once: How = {"lines": [SECOND, *acks(NEXT, AFTER)], "changes": {"a.img": AGAIN}}
-    yield Case("the same image twice", DONE, words=["record", "t1.csv", "a.img", "a.img"], **once)
-    yield Case("the same image by another path", DONE, words=["record", "t1.csv", "a.img", "./a.img"], **once)
-    yield Case("the same image by a link", DONE, words=["record", "t1.csv", "a.img", "link"], makes=link("a.img"), **once)
-    twice: How = {**once, "changes": {"a.img": AGAIN, "same.img": AGAIN}}
-    yield Case("the same image by another name", DONE, words=["record", "t1.csv", "a.img", "same.img"], makes=same_file, **twice)
+    once: dict[str, tuple[str, Maker | None]] = {
+        "the same image twice": ("a.img", None),
+        "the same image by another path": ("./a.img", None),
+        "the same image by a link": ("link", link("a.img")),
+        "the same image by another name": ("same.img", same_file),
+    }
+    for what, (name, makes) in once.items():
+        told = [SECOND, *acks(NEXT, AFTER), why(name, HELD)]
+        changes = dict.fromkeys(["a.img", "same.img"] if makes is same_file else ["a.img"], AGAIN)
+        yield Case(what, DONE, told, ["record", "t1.csv", "a.img", name], makes=makes, changes=changes)
     yield Case("links to both images", DONE, acks(NEXT, AFTER), ["record", "t1.csv", "link", "b.img"], makes=link("a.img"), changes=WHOLE)
 
 
 def meanwhile_cases() -> Iterator[Case]:
     cut = recorded(IMAGE, SIXTH)[:700]
     lost: How = {"given": PIPE, "does": shrink(700, "b.img"), "changes": {"a.img": AGAIN, "b.img": cut}}
-    yield Case("the second image is shrunk", DONE, [*acks(NEXT, NEXT + 6), SECOND, *acks(NEXT + 7, AFTER)], **lost)
+    yield Case("the second image is shrunk", DONE, [*acks(NEXT, NEXT + 6), SECOND, *acks(NEXT + 7, AFTER), why("b.img", SHORTER)], **lost)
     lost = {"given": PIPE, "does": shrink(700, "a.img"), "changes": {"a.img": cut, "b.img": AGAIN}}
-    yield Case("the first image is shrunk", DONE, [*acks(NEXT, NEXT + 6), FIRST, *acks(NEXT + 7, AFTER)], **lost)
+    yield Case("the first image is shrunk", DONE, [*acks(NEXT, NEXT + 6), FIRST, *acks(NEXT + 7, AFTER), why("a.img", SHORTER)], **lost)
     lost = {"given": PIPE, "does": shrink(0, "a.img"), "changes": {"a.img": b"", "b.img": AGAIN}}
-    yield Case("the first image is emptied", DONE, [*acks(NEXT, NEXT + 6), FIRST, *acks(NEXT + 7, AFTER)], **lost)
+    yield Case("the first image is emptied", DONE, [*acks(NEXT, NEXT + 6), FIRST, *acks(NEXT + 7, AFTER), why("a.img", SHORTER)], **lost)
     lost = {"given": PIPE, "does": shrink(700, "a.img", "b.img"), "changes": {"a.img": cut, "b.img": cut}}
-    yield Case("both images are shrunk", DISK_FAULT, [*acks(NEXT, NEXT + 6), FIRST, SECOND], **lost)
-    lines = [*acks(NEXT, NEXT + 6), SECOND, *acks(NEXT + 7, AFTER), FIRST]
+    shorter = [why("a.img", SHORTER), why("b.img", SHORTER)]
+    yield Case("both images are shrunk", DISK_FAULT, [*acks(NEXT, NEXT + 6), FIRST, SECOND, *shorter], **lost)
+    lines = [*acks(NEXT, NEXT + 6), SECOND, *acks(NEXT + 7, AFTER), FIRST, *shorter]
     lost = {"given": PIPE, "does": shrink_in_turn, "changes": {"a.img": AGAIN[:700], "b.img": cut}}
     yield Case("one image is shrunk after the other", DISK_FAULT, lines, **lost)
     whole: How = {"lines": acks(NEXT, AFTER), "given": PIPE}
@@ -407,34 +435,50 @@ def stream_cases() -> Iterator[Case]:
         yield Case(f"standard error {how}, and the words are refused", USAGE, words=RECORD[:3], err=stream)
         yield Case(f"standard output {how}", DONE, acks(NEXT, AFTER), changes=WHOLE, out=stream)
     yield Case("standard output open for reading alone", DONE, acks(NEXT, AFTER), changes=WHOLE, out=READ_ONLY)
-    inputs: list[tuple[Stream, str]] = [(CLOSED, "closed"), (WRITE_ONLY, "open for writing alone"), (FOLDER, "a folder")]
-    for stream, how in [*inputs, (empty_pipe, "an empty pipe that doesn't wait")]:
-        yield Case(f"input {how}", NO_INPUT, acks(NEXT, NEXT), given=stream)
+    inputs: dict[str, tuple[Stream, str]] = {
+        "closed": (CLOSED, OTHER_ERROR),
+        "open for writing alone": (WRITE_ONLY, OTHER_ERROR),
+        "a folder": (FOLDER, A_FOLDER),
+        "an empty pipe that doesn't wait": (empty_pipe, NOT_READY),
+    }
+    for how, (stream, cause) in inputs.items():
+        yield Case(f"input {how}", NO_INPUT, [*acks(NEXT, NEXT), why("standard input", cause)], given=stream)
     yield Case("input /dev/null", TRUNCATED, acks(NEXT, NEXT), given=NOTHING)
     yield Case("input without end", BAD_KIND, acks(NEXT, NEXT), given=ZEROS)
     yield Case("all streams closed", NO_INPUT, given=CLOSED, out=CLOSED, err=CLOSED)
 
 
 def table_cases() -> Iterator[Case]:
-    for name, answer in {"none.csv": NO_TABLE, "folder": NO_TABLE, "/dev/null": NO_FRAME, "/dev/zero": TOO_LARGE}.items():
-        yield Case(f"the table is {name}", answer, words=["record", name, "a.img", "b.img"], makes=subfolder)
+    tables: dict[str, tuple[Answer, list[str]]] = {
+        "none.csv": (NO_TABLE, [why("none.csv", NO_FILE)]),
+        "folder": (NO_TABLE, [why("folder", A_FOLDER)]),
+        "/dev/null": (NO_FRAME, []),
+        "/dev/zero": (TOO_LARGE, []),
+    }
+    for name, (answer, told) in tables.items():
+        yield Case(f"the table is {name}", answer, told, ["record", name, "a.img", "b.img"], makes=subfolder)
         # The disks weren't asked for anything, so that no fault is said.
-        yield Case(f"the table is {name}, and no image is good", answer, words=["record", name, "folder", "none.img"], makes=subfolder)
+        yield Case(f"the table is {name}, and no image is good", answer, told, ["record", name, "folder", "none.img"], makes=subfolder)
     may_not: How = {"makes": all_of(in_other_hands(), mode("t1.csv", 0o000)), "user": NOBODY}
-    yield Case("the table may not be read", NO_TABLE, **may_not)
+    yield Case("the table may not be read", NO_TABLE, [why("t1.csv", NO_PERMISSION)], **may_not)
     yield Case("the table is /dev/stdin", BAD_KIND, acks(NEXT, NEXT), ["record", "/dev/stdin", "a.img", "b.img"], given=T1)
 
 
 def limit_cases() -> Iterator[Case]:
     five = dict.fromkeys(WHOLE, recorded(EMPTY, BITS[:320]))
     only: How = {"makes": images(EMPTY, EMPTY), "changes": five, **size_limit(slot_at(shape_of(EMPTY), 5))}
+    too_large = [why("a.img", TOO_LARGE_FILE), why("b.img", TOO_LARGE_FILE)]
     # A limit of the size of files ends a run by a signal, where that isn't ignored.
-    yield Case("at a limit of size", DISK_FAULT, [*acks(0, 5), FIRST, SECOND], ignores=signal.SIGXFSZ, **only)
+    yield Case("at a limit of size", DISK_FAULT, [*acks(0, 5), FIRST, SECOND, *too_large], ignores=signal.SIGXFSZ, **only)
     yield Case("ended at a limit of size", PAST_SIZE, acks(0, 5), **only)
-    # Its table and both images take a descriptor each.
-    yield Case("as few descriptors as it needs", DONE, acks(NEXT, AFTER), changes=WHOLE, **few_files(6))
-    yield Case("a descriptor too few", DONE, [SECOND, *acks(NEXT, AFTER)], changes={"a.img": AGAIN}, **few_files(5))
-    yield Case("two descriptors too few", DISK_FAULT, [FIRST, SECOND], **few_files(4))
+    of_first, of_second = why("a.img", OTHER_ERROR), why("b.img", OTHER_ERROR)
+    # Its table and both images take a descriptor each, and so does the folder of each.
+    yield Case("as few descriptors as it needs", DONE, acks(NEXT, AFTER), changes=WHOLE, **few_files(8))
+    told = [SECOND, *acks(NEXT, AFTER), of_second]
+    yield Case("no descriptor for the second folder", DONE, told, changes={"a.img": AGAIN}, **few_files(7))
+    yield Case("no descriptor for a folder", DISK_FAULT, [FIRST, SECOND, of_first, of_second], **few_files(6))
+    yield Case("no descriptor for the second image", DISK_FAULT, [SECOND, FIRST, of_first, of_second], **few_files(5))
+    yield Case("no descriptor for an image", DISK_FAULT, [FIRST, SECOND, of_first, of_second], **few_files(4))
 
 
 def memory_cases() -> Iterator[Case]:
@@ -456,17 +500,19 @@ def mount_cases() -> Iterator[Case]:
     holes = all_of(file("a.img", large), small, sparse_image("small/b.img", large), filled)
     given = word_at(0, 5) + end_at(43_000_000)
     lacking: How = {"makes": holes, "given": given, "changes": {"a.img": recorded(large, FIVES[:4128]), "small/b.img": torn}}
-    yield Case("no room for the second, with holes", DONE, ["ack 0", SECOND, *acks(1, 2)], on_second, **lacking)
-    yield Case("no room for the first, with holes", DONE, ["ack 0", FIRST, *acks(1, 2)], on_first, **lacking)
+    no_room = why("small/b.img", NO_ROOM)
+    yield Case("no room for the second, with holes", DONE, ["ack 0", SECOND, *acks(1, 2), no_room], on_second, **lacking)
+    yield Case("no room for the first, with holes", DONE, ["ack 0", FIRST, *acks(1, 2), no_room], on_first, **lacking)
     lead = recorded(large, FIVES[:4128])
     holes = all_of(file("a.img", lead), small, sparse_image("small/b.img", large), filled)
     lacking = {"makes": holes, "given": given, "changes": {"a.img": recorded(lead, FIVES[:4128]), "small/b.img": torn}}
-    yield Case("no room to bring up the second", DONE, [SECOND, *acks(2, 4)], on_second, **lacking)
-    yield Case("no room to bring up the first", DONE, [FIRST, *acks(2, 4)], on_first, **lacking)
+    yield Case("no room to bring up the second", DONE, [SECOND, *acks(2, 4), no_room], on_second, **lacking)
+    yield Case("no room to bring up the first", DONE, [FIRST, *acks(2, 4), no_room], on_first, **lacking)
     read_only = all_of(small, file("small/b.img", IMAGE), made_read_only)
     one: How = {"makes": read_only, "changes": {"a.img": AGAIN}}
-    yield Case("the second's file system may only be read", DONE, [SECOND, *acks(NEXT, AFTER)], on_second, **one)
-    yield Case("the first's file system may only be read", DONE, [FIRST, *acks(NEXT, AFTER)], on_first, **one)
+    may_not = why("small/b.img", READ_ONLY_SYSTEM)
+    yield Case("the second's file system may only be read", DONE, [SECOND, *acks(NEXT, AFTER), may_not], on_second, **one)
+    yield Case("the first's file system may only be read", DONE, [FIRST, *acks(NEXT, AFTER), may_not], on_first, **one)
 
 
 def all_cases() -> Iterator[Case | InLittleMemory]:

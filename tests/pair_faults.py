@@ -1,8 +1,8 @@
 """Faults of either disk, for pair.py: each call of `fdrpair record` on one image fails in turn.
 
-strace lets the call fail. Of each run it is wanted that the fault is said once and that the program doesn't use this image
-again; that the recording goes on with the other image, which then
-is, byte for byte, as the blocks of the trace make it; and that the image that failed holds what it should have until then.
+strace lets the call fail. Of each run it is wanted that the fault is said once, and its cause, and that the program doesn't
+use this image again; that the recording goes on with the other image, which then is, byte for byte, as the blocks of the
+trace make it; and that the image that failed holds what it should have until then.
 Where the image that leads fails while the other is brought up to it, the answer is `lead disk fault` instead, with status
 18: the lead is as it was, and the other has some more of the lead's blocks, whole.
 """
@@ -19,29 +19,31 @@ from inputs import T1, t1_frame, word_at
 from places import Mismatch, Place, Skipped
 from recordings import LIMIT, PROMISED_LESS
 
-CALLS = ["openat", "newfstatat", "statx", "fstat", "pread64", "pwrite64", "fdatasync"]
+CALLS = ["openat", "newfstatat", "statx", "fstat", "flock", "pread64", "pwrite64", "fsync", "fdatasync"]
 TRACE = word_at(0, 5) + end_at(4_000_000)
 BITS = t1_frame(0, 5)
 NAMES = {"first": "a.img", "second": "b.img"}
 
 
 class Ended(NamedTuple):
-    """A run that is over: its status, the acknowledged numbers, the other lines, whether a call failed, and the calls and images
-    after it."""
+    """A run that is over: its status, the acknowledged numbers, the other lines, the line of the cause that is to be among them,
+    whether a call failed, and the calls and images after it."""
 
     status: int
     told: list[int]
     others: list[str]
+    cause: str
     was_injected: str
     later: list[str]
     images: dict[str, bytes]
 
 
-def started(slots: int, *recordings: int) -> bytes:
+def started(slots: int, *recordings: int, payload: int = 64) -> bytes:
     """An image in which so many blocks were recorded, one recording after another."""
-    image = empty_image(slots, 64)
+    image = empty_image(slots, payload)
     for count in recordings:
-        image = with_blocks(image, [(next_session(image), block) for block in blocks_of(BITS * 8, 64)[:count]])
+        blocks = blocks_of(BITS * (count * payload // len(BITS) + 1), payload)[:count]
+        image = with_blocks(image, [(next_session(image), block) for block in blocks])
     return image
 
 
@@ -50,6 +52,9 @@ PAIRS = {
     "the second is behind": (started(5, 3, 3), started(5, 3)),
     "the first is behind": (started(8, 2), started(8, 2, 4)),
 }
+# What is read ahead of the lead isn't read again while the other is brought up: here that is too little.
+LARGE = "the second is behind, by more than is read ahead"
+PAIRS[LARGE] = started(20, 3, 16, payload=4096), started(20, 3, payload=4096)
 
 
 def run_with_fault(program: pathlib.Path, room: pathlib.Path, side: str, call: str, number: int) -> Ended:
@@ -62,7 +67,8 @@ def run_with_fault(program: pathlib.Path, room: pathlib.Path, side: str, call: s
     told = [int(line.split()[1]) for line in lines if line.startswith("ack ")]
     others = [line for line in lines if not line.startswith("ack ")]
     _, was_injected, later = (room / "calls").read_text().partition("(INJECTED)")
-    return Ended(ended.returncode, told, others, was_injected, later.split("\n")[1:-1], {one: path.read_bytes() for one, path in paths.items()})
+    cause = f"fdrpair: {paths[side]}: input/output error"
+    return Ended(ended.returncode, told, others, cause, was_injected, later.split("\n")[1:-1], {one: path.read_bytes() for one, path in paths.items()})
 
 
 def want(is_so: object, what: str) -> None:
@@ -74,22 +80,23 @@ def look(before: dict[str, bytes], side: str, ended: Ended) -> bool:
     """Compares what a run left after this side failed, and answers whether the recording went on."""
     other = "first" if side == "second" else "second"
     lead = max(NAMES, key=lambda one: next_number(before[one]))
-    new = [(next_session(before[lead]), block) for block in blocks_of(BITS, 64)]
+    blocks = blocks_of(BITS, shape_of(before[lead]).payload)
+    new = [(next_session(before[lead]), block) for block in blocks]
     missing = [(block.session, block.payload) for block in recovered(before[lead]) if block.number >= next_number(before[other])]
     want(not ended.later, f"the {side} image was used after its fault: {ended.later[:1]}")
     if ended.status == 18:
-        want(ended.others == [f"fault {side}", "fdrpair: lead disk fault"] and not ended.told, f"said {ended.others} after {ended.told}")
+        want(ended.others == [f"fault {side}", ended.cause, "fdrpair: lead disk fault"] and not ended.told, f"said {ended.others} after {ended.told}")
         want(side == lead and missing, f"the {side} image doesn't lead, or nothing is missing")
         want(ended.images[side] == before[side], "the lead was changed")
         some = [with_blocks(before[other], missing[:count]) for count in range(len(missing))]
         want(ended.images[other] in some, "the other image hasn't some of the lead's blocks")
         return False
-    want(ended.status == 0 and ended.others == [f"fault {side}"], f"ended with {ended.status} and said {ended.others}")
+    want(ended.status == 0 and ended.others == [f"fault {side}", ended.cause], f"ended with {ended.status} and said {ended.others}")
     # Where the lead failed early, the other goes on with its own blocks alone.
     first = ended.told[0]
     is_alone = first == next_number(before[other])
     if is_alone and missing:
-        new = [(next_session(before[other]), block) for block in blocks_of(BITS, 64)]
+        new = [(next_session(before[other]), block) for block in blocks]
     want(first == next_number(before[other if is_alone else lead]), f"the first number was {first}")
     want(ended.told == list(range(first, first + len(new) + 1)), f"acknowledged were {ended.told}")
     want(ended.images[other] == with_blocks(before[other], new if is_alone else missing + new), "the other image isn't as it should be")
@@ -140,6 +147,7 @@ class Faults:
         if not can_trace:
             raise Skipped("it needs strace")
         calls, went_on = fail_in_turn(pathlib.Path(place.program), place.room, *PAIRS[self.what], self.side)
+        want(calls > went_on or (self.what, self.side) != (LARGE, "first"), "no call of the lead failed while the other was brought up")
         self.name += f": {calls} calls, the recording went on after {went_on}"
 
 

@@ -95,6 +95,11 @@ def want(found: object, wanted: object, what: str) -> None:
         raise Mismatch(f"{what}: {found!r} and not {wanted!r}")
 
 
+def fault_of_second(trial: Trial, cause: str) -> list[str]:
+    """What is said where the second disk failed and the recording went on."""
+    return ["fault second", f"fdrpair: {trial.images[1]}: {cause}"]
+
+
 def blocks_in(trace: bytes, shape: tuple[int, int] = SHAPE) -> int:
     return len(blocks_of(bits_of_trace(trace), shape[1]))
 
@@ -139,7 +144,7 @@ def hang(trial: Trial, fails: bool) -> str:
     ended = trial.record(2, trace, meanwhile)
     trial.disks.mend(1)
     count = blocks_in(trace)
-    want((ended.status, ended.acks[-1][1], ended.others), (0, count, ["fault second"] if fails else []), "after a disk hung")
+    want((ended.status, ended.acks[-1][1], ended.others), (0, count, fault_of_second(trial, "input/output error") if fails else []), "after a disk hung")
     want(during[0], 0, "announced while a disk hung")
     want(next_number(trial.images[0].read_bytes()), count, "the next number of the first image")
     there = "both have all" if not fails else "`fault second`, the first has all"
@@ -163,14 +168,15 @@ def held_by_a_reader(trial: Trial) -> str:
     with open(trial.images[1], "rb") as reader:
         fcntl.flock(reader, fcntl.LOCK_SH)
         ended = trial.record(2, trace)
-        want((ended.status, ended.others[-1:]), (0, ["fault second"]), "a pair with a reader on one image")
+        want((ended.status, ended.others), (0, fault_of_second(trial, "held by another run")), "a pair with a reader on one image")
         trial.images.reverse()
         alone = trial.record(1, trace)
         trial.images.reverse()
-        want((alone.status, alone.others[-1:], alone.acks), (10, ["fdr: disk fault"], []), "one image with a reader on it")
+        told = [f"fdr: {trial.images[1]}: held by another run", "fdr: disk fault"]
+        want((alone.status, alone.others, alone.acks), (10, told, []), "one image with a reader on it")
     again = trial.record(2, trace)
     want((again.status, again.others, trial.held(0) == trial.held(1)), (0, [], True), "without the reader")
-    return f"alone: `fdr: disk fault` after {alone.seconds:.2f} s; of two: `fault second`, and brought up at the next start"
+    return f"alone: `held by another run` and `fdr: disk fault` after {alone.seconds:.2f} s; of two: `fault second`, and brought up at the next start"
 
 
 def not_mounted(trial: Trial) -> str:
@@ -181,7 +187,8 @@ def not_mounted(trial: Trial) -> str:
     before = trial.images[0].read_bytes()
     unmount(trial.disks.places[1])
     ended = trial.record(2, trace)
-    want((ended.status, ended.others[-1:], ended.acks), (4, ["fdrpair: second image: too small"], []), "without the second disk")
+    told = [f"fdrpair: {trial.images[1]}: no such file", "fdrpair: second image: too small"]
+    want((ended.status, ended.others, ended.acks), (4, told, []), "without the second disk")
     want(trial.images[0].read_bytes(), before, "the first image")
     want(trial.record(1, trace).status, 0, "the first disk alone")
     trial.disks.mount(1)

@@ -72,7 +72,7 @@ make_ready() {
 
 # Writes the recorder's lines with their times, and marks what the script waits for.
 take_lines() {
-    local line is_pair=''
+    local line said='' is_pair=''
     [ ${#here[@]} -lt 2 ] || is_pair=1
     while IFS= read -r line; do
         printf '%(%FT%TZ)T %s\n' -1 "$line" >>"$acks"
@@ -82,7 +82,7 @@ take_lines() {
             : >"$run/begun" ;;
         "fault first") alarm "${here[0]} failed: the other image goes on alone" && : >"${here[1]}.alone" && is_pair='' ;;
         "fault second") alarm "${here[1]} failed: the other image goes on alone" && : >"${here[0]}.alone" && is_pair='' ;;
-        *) echo "$line" >"$run/answer" ;;
+        *) said=${said:+$said; }$line && echo "$said" >"$run/answer" ;;
         esac
     done
 }

@@ -26,6 +26,7 @@ FAKE = """#!/bin/bash
 echo run >> {folder}/runs
 echo "ack 0" >&2
 fincore --noheadings --output PAGES "$3" >> {folder}/pages 2> /dev/null
+echo "fdr: $3: a cause" >&2
 echo "fdr: answer {status}" >&2
 exit {status}
 """
@@ -171,19 +172,21 @@ def test_what_ends_it_for_good(service: Start, tmp_path: pathlib.Path, status: i
     fed = service(T1, *images, "--", "sleep", "60", fdr=fake(tmp_path, status))
     ended, _, error = fed.ended()
     assert (ended, runs(tmp_path)) == (status, 1)
-    assert f"ALARM: stopped for good, status {status}: fdr: answer {status}; " in error
+    assert f"ALARM: stopped for good, status {status}: fdr: {images[0]}: a cause; fdr: answer {status}; " in error
 
 
 @pytest.mark.parametrize("status", [0, 3, 8, 10])
 def test_what_it_begins_again_after(service: Start, tmp_path: pathlib.Path, status: int) -> None:
-    (tmp_path / "a.img").write_bytes(b"image")
-    fed = service(T1, tmp_path / "a.img", "--", "sleep", "60", fdr=fake(tmp_path, status))
+    image = tmp_path / "a.img"
+    image.write_bytes(b"image")
+    fed = service(T1, image, "--", "sleep", "60", fdr=fake(tmp_path, status))
     until(lambda: runs(tmp_path) >= 3)
     fed.child.terminate()
     _, _, error = fed.ended()
     assert "stopped for good" not in error
-    assert (f"the recorder ended with {status}: fdr: answer {status}" in error) == (status != 0)
-    assert ("ALARM: fdr: answer 10" in error) == (status == 10)
+    told = f"fdr: {image}: a cause; fdr: answer {status}"
+    assert (f"the recorder ended with {status}: {told}" in error) == (status != 0)
+    assert (f"ALARM: {told}" in error) == (status == 10)
 
 
 def test_no_memory_is_tried_three_times(service: Start, tmp_path: pathlib.Path) -> None:

@@ -1,1 +1,1 @@
-mod FileTwins
+mod TwinRests

@@ -1,11 +1,14 @@
-//! The deck, the twin and the sink of the programs, over files and standard streams. They tell no bytes: a clause sees
-//! their counts alone.
+//! The deck, the twin, the source and the sink of the programs, over files and standard streams. They are what stands over
+//! every storage, over those of the system, which tell nothing: a clause sees their counts alone.
 #![tactic(auto)]
 
-mod file_deck;
-mod file_twin;
-mod out_sink;
+mod adapters;
+mod causes;
+mod twin;
 
-pub use file_deck::FileDeck;
-pub use file_twin::FileTwin;
-pub use out_sink::OutSink;
+pub use adapters::{
+    FileDeck, FileSource, FileTwin, OutSink, deck_over, image_over, sink_into, source_over,
+    twin_over,
+};
+pub use causes::cause_text;
+pub use twin::StorageTwin;

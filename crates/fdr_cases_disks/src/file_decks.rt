@@ -2,9 +2,8 @@
 
 use crate::fakes::Marked;
 use crate::on_disk::{has_at, is_there};
-use fdr_adapters::{FileDeck, OutSink};
+use fdr_adapters::{FileDeck, deck_over, image_over, sink_into};
 use fdr_deck::Deck;
-use fdr_files::ImageFile;
 use fdr_io::Failed;
 use std::fs::File;
 use std::io::{Sink, Write, sink};
@@ -48,18 +47,18 @@ fn store_some<D: Deck>(deck: &mut D) -> Result<[u8; 4], Failed> {
 }
 
 // Without an input, and with announcements that nobody reads.
-fn deck_over<'a, R: Files<File = File>>(
+fn deck_at<'a, R: Files<File = File>>(
     rt: &'a R,
     path: &'a str,
     writes: bool,
 ) -> FileDeck<'a, R, &'static [u8], Sink> {
-    FileDeck::new(ImageFile::new(rt, path, writes), b"".as_slice(), sink())
+    deck_over(image_over(rt, path, writes), b"".as_slice(), sink())
 }
 
 #[test]
 fn a_writer_takes_bytes_or_faults(rt: HostRuntime) {
     let mut room = [0u8; 4];
-    let mut sink = OutSink::new(room.as_mut_slice());
+    let mut sink = sink_into(room.as_mut_slice());
     assert!(rt; write_some(&mut sink) == Ok(4) && write_some(&mut sink) == Err(Failed));
 }
 
@@ -72,15 +71,15 @@ fn pulls_to_the_end<D: Deck>(deck: &mut D) -> bool {
 
 #[test]
 fn a_line_is_pulled_to_its_end(rt: HostRuntime) {
-    let image = ImageFile::new(&rt, "", false);
-    let mut deck = FileDeck::new(image, b"abc".as_slice(), sink());
+    let image = image_over(&rt, "", false);
+    let mut deck = deck_over(image, b"abc".as_slice(), sink());
     assert!(rt; pulls_to_the_end(&mut deck));
 }
 
 // Announces on a writer.
 fn announce_on(rt: &impl Files<File = File>, acknowledgements: impl Write + Drop) {
-    let image = ImageFile::new(rt, "", false);
-    let mut deck = FileDeck::new(image, b"".as_slice(), acknowledgements);
+    let image = image_over(rt, "", false);
+    let mut deck = deck_over(image, b"".as_slice(), acknowledgements);
     announce_some(&mut deck);
 }
 
@@ -98,14 +97,14 @@ fn makes_and_keeps<D: Deck>(deck: &mut D) -> bool {
 
 // Whether a disk fails at once, which another deck holds.
 fn is_held(rt: &impl Files<File = File>, path: &str) -> bool {
-    let mut deck = deck_over(rt, path, true);
+    let mut deck = deck_at(rt, path, true);
     measure(&mut deck) == Err(Failed)
 }
 
 #[test]
 fn a_disk_is_a_file(rt: HostRuntime) {
     let path = "image.bin";
-    let mut deck = deck_over(&rt, path, true);
+    let mut deck = deck_at(&rt, path, true);
     assert!(rt;
         makes_and_keeps(&mut deck) && has_at(&rt, path, 50, &[0, 7, 8, 0]) && is_held(&rt, path)
     );

@@ -1,13 +1,13 @@
 //! The twin over two files.
 
+use crate::fakes::OtherFolder;
 use crate::on_disk::{has_at, put, remove};
-use fdr_adapters::FileTwin;
+use fdr_adapters::{FileTwin, image_over, twin_over};
 use fdr_deck::Deck;
-use fdr_files::ImageFile;
 use fdr_io::Failed;
 use fdr_twin::{Side, Twin};
 use std::fs::File;
-use std::io::{Write, sink};
+use std::io::{ErrorKind, Write, sink};
 use std::process::Abort;
 use std::rt::Files;
 
@@ -25,9 +25,25 @@ fn store<T: Twin>(twin: &mut T, side: Side, byte: u8) -> Result<[u8; 3], Failed>
     Ok(bytes)
 }
 
-fn sync<T: Twin>(twin: &mut T, side: Side) -> Result<(), Failed> {
+/// A call of a disk.
+#[derive(Clone, Copy, Debug)]
+enum Call {
+    Size,
+    Provide,
+    Read,
+    Write,
+    Sync,
+}
+
+fn make<T: Twin>(twin: &mut T, side: Side, call: Call) -> Result<(), Failed> {
     twin.turn(side);
-    twin.sync()
+    match call {
+        Call::Size => twin.size().map(|_| ()),
+        Call::Provide => twin.provide(100),
+        Call::Read => twin.read(0, &mut []),
+        Call::Write => twin.write(0, &[]),
+        Call::Sync => twin.sync(),
+    }
 }
 
 fn announce_some<D: Deck>(deck: &mut D) {
@@ -54,22 +70,22 @@ fn goes_on_with_the_first<T: Twin>(twin: &mut T) -> bool {
         && store(twin, Side::First, 9) == Ok([0, 9, 0])
 }
 
-// Whether two syncs of the first side fail.
-fn fails_to_sync<T: Twin>(twin: &mut T) -> bool {
-    sync(twin, Side::First) == Err(Failed) && sync(twin, Side::First) == Err(Failed)
+// Whether a call fails, and again.
+fn fails_twice<T: Twin>(twin: &mut T, side: Side, call: Call) -> bool {
+    make(twin, side, call) == Err(Failed) && make(twin, side, call) == Err(Failed)
 }
 
 // The twin over two files, with a line.
-fn twin_over<'a, R: Files<File = File>, A: Write + Drop>(
+fn twin_at<'a, R: Files<File = File>, A: Write + Drop>(
     rt: &'a R,
     first: &'a str,
     second: &'a str,
     line: &'static [u8],
     acknowledgements: A,
 ) -> FileTwin<'a, R, &'static [u8], A> {
-    let first = ImageFile::new(rt, first, true);
-    let second = ImageFile::new(rt, second, true);
-    FileTwin::new(first, second, line, acknowledgements)
+    let first = image_over(rt, first, true);
+    let second = image_over(rt, second, true);
+    twin_over(first, second, line, acknowledgements)
 }
 
 // Puts 100 zeros into each of two files.
@@ -85,7 +101,7 @@ fn remove_both(rt: &(impl Files + Abort), first: &str, second: &str) {
 
 // Records on both files.
 fn record_on_both(rt: &(impl Files<File = File> + Abort), first: &str, second: &str) {
-    let mut twin = twin_over(rt, first, second, b"ab", sink());
+    let mut twin = twin_at(rt, first, second, b"ab", sink());
     assert!(rt; keeps_both(&mut twin));
 }
 
@@ -104,7 +120,7 @@ fn record_on_the_first(
     second: &str,
     lines: &mut Vec<u8>,
 ) {
-    let mut twin = twin_over(rt, first, second, b"", lines);
+    let mut twin = twin_at(rt, first, second, b"", lines);
     assert!(rt; store(&mut twin, Side::Second, 8).is_ok());
     put(rt, second, b"abc");
     assert!(rt; goes_on_with_the_first(&mut twin));
@@ -120,15 +136,63 @@ fn a_side_goes_on_alone(rt: HostRuntime) {
     remove_both(&rt, "whole.img", "short.img");
 }
 
-// Syncs a folder in place of an image.
-fn sync_a_folder(rt: &(impl Files<File = File> + Abort), lines: &mut Vec<u8>) {
-    let mut twin = twin_over(rt, ".", "missing.img", b"", lines);
-    assert!(rt; fails_to_sync(&mut twin));
+// Makes a call of a side twice, where both images are folders.
+fn ask_a_folder(
+    rt: &(impl Files<File = File> + Abort),
+    side: Side,
+    call: Call,
+    lines: &mut Vec<u8>,
+) -> (Option<ErrorKind>, Option<ErrorKind>) {
+    let mut twin = twin_at(rt, ".", ".", b"", lines);
+    assert!(rt; fails_twice(&mut twin, side, call));
+    (twin.why(Side::First), twin.why(Side::Second))
 }
 
 #[test]
-fn a_folder_is_no_image(rt: HostRuntime) {
-    let mut lines = Vec::new(rt.alloc());
-    sync_a_folder(&rt, &mut lines);
-    assert!(rt; lines.as_slice() == b"fault first\n".as_slice());
+fn each_call_that_fails_is_told_of_its_side_once(rt: HostRuntime) {
+    let cause = Some(ErrorKind::IsADirectory);
+    for call in [
+        Call::Size,
+        Call::Provide,
+        Call::Read,
+        Call::Write,
+        Call::Sync,
+    ] {
+        let mut lines = Vec::new(rt.alloc());
+        let causes = ask_a_folder(&rt, Side::First, call, &mut lines);
+        assert!(rt;
+            lines.as_slice() == b"fault first\n".as_slice() && causes == (cause, None),
+            "{call:?} of the first"
+        );
+        let mut lines = Vec::new(rt.alloc());
+        let causes = ask_a_folder(&rt, Side::Second, call, &mut lines);
+        assert!(rt;
+            lines.as_slice() == b"fault second\n".as_slice() && causes == (None, cause),
+            "{call:?} of the second"
+        );
+    }
+}
+
+// Whether the first of two files can be written, and synced, where its folder is another file.
+fn sync_in_another_folder<R: Files<File = File>>(files: &R, lines: &mut Vec<u8>) -> (bool, bool) {
+    let mut twin = twin_at(files, "named.img", "other.img", b"", lines);
+    let is_written = make(&mut twin, Side::First, Call::Write).is_ok();
+    let is_synced = make(&mut twin, Side::First, Call::Sync).is_ok();
+    (is_written, is_synced)
+}
+
+// The first sync of a file is one of its name too.
+#[test]
+fn a_sync_that_is_not_whole_is_a_fault(rt: HostRuntime) {
+    put_zeros(&rt, "named.img", "other.img");
+    for folder in ["missing", "/dev/null"] {
+        let files = OtherFolder::new(&rt, folder);
+        let mut lines = Vec::new(rt.alloc());
+        assert!(rt;
+            sync_in_another_folder(&files, &mut lines) == (true, false)
+                && lines.as_slice() == b"fault first\n".as_slice(),
+            "{folder}"
+        );
+    }
+    remove_both(&rt, "named.img", "other.img");
 }

@@ -27,6 +27,8 @@ mod salvaged_runs;
 #[cfg(test)]
 mod sources;
 #[cfg(test)]
+mod storage_decks;
+#[cfg(test)]
 mod table_sources;
 #[cfg(test)]
 mod twins;

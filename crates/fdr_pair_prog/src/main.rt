@@ -3,11 +3,14 @@
 
 mod usage;
 
-use fdr_adapters::FileTwin;
-use fdr_files::{FileSource, ImageFile};
+use fdr_adapters::{cause_text, image_over, source_over, twin_over};
+use fdr_io::Input;
 use fdr_pair::{PairOutcome, PairWordsFault, read_pair_words, run_pair};
+use fdr_storage_deck::{ImageFile, Window};
+use fdr_storage_system::SystemFile;
+use fdr_twin::Side;
 use std::env::Env;
-use std::io::{IsTerminal, Write};
+use std::io::{ErrorKind, IsTerminal, Write};
 use std::process::ExitCode;
 use std::{env, io};
 use usage::explain;
@@ -35,11 +38,43 @@ fn record_on_files(rt: &HostRuntime, words: &[String]) -> PairOutcome {
         Err(PairWordsFault::Usage) => return PairOutcome::Usage,
         Err(PairWordsFault::NoMemory) => return PairOutcome::NoMemory,
     };
-    let mut table = FileSource::new(rt, request.table.text());
-    let first = ImageFile::new(rt, request.first.text(), true);
-    let second = ImageFile::new(rt, request.second.text(), true);
-    let mut twin = FileTwin::new(first, second, rt.stdin(), rt.stderr());
-    run_pair(rt.alloc(), words, &mut table, &mut twin)
+    let mut table = source_over(rt, request.table.text());
+    let first = image_of(rt, request.first.text());
+    let second = image_of(rt, request.second.text());
+    let mut twin = twin_over(first, second, rt.stdin(), rt.stderr());
+    let outcome = run_pair(rt.alloc(), words, &mut table, &mut twin);
+    tell_cause(rt, request.first.text(), twin.why(Side::First));
+    tell_cause(rt, request.second.text(), twin.why(Side::Second));
+    match &outcome {
+        PairOutcome::ReadFault(Input::Table) => tell_cause(rt, request.table.text(), table.why()),
+        PairOutcome::ReadFault(Input::Line) => tell_cause(
+            rt,
+            "standard input",
+            twin.why_of_input(),
+        ),
+        _ => {}
+    }
+    outcome
+}
+
+/// The image at this path. Until it is written it is read through a window, if there is memory for one.
+fn image_of<'a>(rt: &'a HostRuntime, path: &'a str) -> ImageFile<SystemFile<'a, HostRuntime>> {
+    let image = image_over(rt, path, true);
+    match Window::new(rt.alloc()) {
+        Ok(window) => image.seen_through(window),
+        Err(_) => image,
+    }
+}
+
+/// Tells on standard error why a call of the system failed, if one did. That it can't be told changes nothing.
+fn tell_cause(rt: &HostRuntime, name: &str, cause: Option<ErrorKind>) {
+    if let Some(cause) = cause {
+        let _ = rt.stderr().write_all(b"fdrpair: ");
+        let _ = rt.stderr().write_all(name.as_bytes());
+        let _ = rt.stderr().write_all(b": ");
+        let _ = rt.stderr().write_all(cause_text(cause).as_bytes());
+        let _ = rt.stderr().write_all(b"\n");
+    }
 }
 
 fn record_with_help(rt: &HostRuntime, words: &[String]) -> PairOutcome {

@@ -3,13 +3,15 @@
 
 mod usage;
 
-use fdr_adapters::{FileDeck, OutSink};
-use fdr_files::{AHEAD, FileSource, ImageFile, LineReader, Window};
+use fdr_adapters::{cause_text, deck_over, image_over, sink_into, source_over};
+use fdr_io::Input;
+use fdr_storage_deck::{AHEAD, ImageFile, Window};
+use fdr_storage_system::{LineReader, SystemFile};
 use fdr_top::{Outcome, run};
 use fdr_words::{Request, WordsFault, read_words};
 use std::alloc::Global;
 use std::env::Env;
-use std::io::{BufReader, IsTerminal, Stdin, Write};
+use std::io::{BufReader, ErrorKind, IsTerminal, Stdin, Write};
 use std::process::ExitCode;
 use std::{env, io};
 use usage::explain;
@@ -30,12 +32,15 @@ fn outcome_of_words(error: io::Error) -> Outcome {
     }
 }
 
-/// The image of a command. One that never writes it reads through a window, if there is memory for one.
-fn image_of<'a>(rt: &'a HostRuntime, request: &'a Request) -> ImageFile<'a, HostRuntime> {
-    let image = ImageFile::new(rt, request.image().unwrap_or(""), request.writes());
+/// The image of a command. Until it is written it is read through a window, if there is memory for one.
+fn image_of<'a>(
+    rt: &'a HostRuntime,
+    request: &'a Request,
+) -> ImageFile<SystemFile<'a, HostRuntime>> {
+    let image = image_over(rt, request.image().unwrap_or(""), request.writes());
     match Window::new(rt.alloc()) {
-        Ok(window) if !request.writes() => image.seen_through(window),
-        _ => image,
+        Ok(window) => image.seen_through(window),
+        Err(_) => image,
     }
 }
 
@@ -55,10 +60,20 @@ fn run_on_files(rt: &HostRuntime, words: &[String]) -> Outcome {
         Err(WordsFault::Usage) => return Outcome::Usage,
         Err(WordsFault::NoMemory) => return Outcome::NoMemory,
     };
-    let mut table = FileSource::new(rt, request.table().unwrap_or(""));
-    let mut deck = FileDeck::new(image_of(rt, &request), line_of(rt, &request), rt.stderr());
-    let mut out = OutSink::new(rt.stdout());
+    let mut table = source_over(rt, request.table().unwrap_or(""));
+    let mut deck = deck_over(image_of(rt, &request), line_of(rt, &request), rt.stderr());
+    let mut out = sink_into(rt.stdout());
     let outcome = run(rt.alloc(), words, &mut table, &mut deck, &mut out);
+    let (name, cause) = match &outcome {
+        Outcome::DiskFault | Outcome::ImageRefused(_) => (request.image(), deck.why()),
+        Outcome::ReadFault(Input::Table) => (request.table(), table.why()),
+        Outcome::ReadFault(Input::Line) => (Some("standard input"), deck.why_of_input()),
+        Outcome::WriteFault => (Some("standard output"), out.why()),
+        _ => (None, None),
+    };
+    if let (Some(name), Some(cause)) = (name, cause) {
+        tell_cause(rt, name, cause);
+    }
     if !matches!(&outcome, Outcome::Done) {
         deck.discard();
     }
@@ -78,6 +93,15 @@ fn help(rt: &HostRuntime, words: &[String]) {
     if rt.stderr().is_terminal() {
         let _ = explain(&mut rt.stderr(), words);
     }
+}
+
+/// Tells on standard error why a call of the system failed. That it can't be told changes nothing.
+fn tell_cause(rt: &HostRuntime, name: &str, cause: ErrorKind) {
+    let _ = rt.stderr().write_all(b"fdr: ");
+    let _ = rt.stderr().write_all(name.as_bytes());
+    let _ = rt.stderr().write_all(b": ");
+    let _ = rt.stderr().write_all(cause_text(cause).as_bytes());
+    let _ = rt.stderr().write_all(b"\n");
 }
 
 /// Tells the outcome on standard error. That it can't be told changes nothing of it.

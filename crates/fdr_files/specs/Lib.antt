@@ -1,4 +1,0 @@
-pub mod Acknowledgements
-pub mod Apart
-pub mod Counts
-pub mod Pulled

@@ -1,0 +1,5 @@
+pub mod Disk
+pub mod Calls
+pub mod Names
+pub mod Memory
+pub mod MemorySound
