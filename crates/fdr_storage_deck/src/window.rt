@@ -14,8 +14,7 @@ use std::alloc::{AllocError, Global};
 /// How many bytes are read ahead at most.
 pub const AHEAD: usize = 65_536;
 
-// How far from the end of a read the next one may begin for what follows it to be read ahead: a page, which the system reads
-// whole.
+// How far apart two reads may be for what lies that way to be read ahead: a page, which the system reads whole.
 const NEAR: u64 = 4_096;
 
 /// A stretch of a file as it was read last.
@@ -24,7 +23,8 @@ pub struct Window {
     room: Vec<u8>,
     at: u64,
     len: usize,
-    // Where the last read ended.
+    // Where the last read began and ended.
+    first: u64,
     last: u64,
     ghost within: { len ≤ length room.items },
 }
@@ -39,6 +39,7 @@ impl Window {
             room,
             at: 0,
             len: 0,
+            first: 0,
             last: 0,
         })
     }
@@ -84,22 +85,33 @@ impl Window {
         ensures no_fault { OnOk result (NoneFailed S.tells (S.disk storage.old) (S.disk storage.new)) }
         ensures cause { OnErr result (GaveUp S.tells (S.disk storage.old) (S.disk storage.new)) }
     {
-        let goes_on = self.goes_on(at);
+        let start = self.start_for(at, buf.len());
+        self.first = at;
         self.last = at.saturating_add(buf.len() as u64);
         if self.give(at, buf) {
             return Ok(true);
         }
-        if !goes_on || buf.len() >= self.room.len() {
-            return Ok(false);
+        match start {
+            Some(start) if buf.len() < self.room.len() => self.fill(storage, start)?,
+            _ => return Ok(false),
         }
-        self.fill(storage, at)?;
         let given = self.give(at, buf);
         Ok(given)
     }
 
-    /// Whether a read from here on goes on near where the last one ended.
-    fn goes_on(&self, at: u64) -> bool {
-        matches!(at.checked_sub(self.last), Some(gap) if gap <= NEAR)
+    /// Where the stretch begins that has these bytes, and the next ones where reads go on, or the ones before where they go
+    /// back: then as many steps before as there is room for, so that it begins with a byte that a read asks for in its turn.
+    fn start_for(&self, at: u64, len: usize) -> Option<u64> {
+        if matches!(at.checked_sub(self.last), Some(gap) if gap <= NEAR) {
+            return Some(at);
+        }
+        let before = self.room.len().saturating_sub(len) as u64;
+        match self.first.checked_sub(at) {
+            Some(step) if step > 0 && step.saturating_sub(len as u64) <= NEAR => {
+                Some(at.saturating_sub(before.saturating_sub(before % step)))
+            }
+            _ => None,
+        }
     }
 
     /// Reads the stretch that begins here. Where that fails the window is over nothing. The system gives what comes before a
