@@ -241,6 +241,8 @@ def runs_of_pair() -> Iterator[Run]:
         ("a_block_differs", ["record", "t1.csv", "a.img", "apart.img"], None),
         ("one_is_missing", ["record", "t1.csv", "a.img", "none.img"], None),
         ("a_lock_is_held", both, Fault("flock", 2, "error=EAGAIN")),
+        ("one_file_without_locks", ["record", "t1.csv", "a.img", "./a.img"], Fault("flock", 1, "error=EOPNOTSUPP", "+")),
+        ("two_files_without_locks", both, Fault("flock", 1, "error=EOPNOTSUPP", "+")),
         ("a_look_fails", both, Fault("statx", 1, EIO)),
         ("the_first_sync_fails", both, Fault("fsync", 1, EIO)),
         ("a_later_sync_fails", both, Fault("fdatasync", 8, EIO)),

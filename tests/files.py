@@ -444,8 +444,8 @@ def image_cases() -> Iterator[Case]:
 def meanwhile_cases() -> Iterator[Case]:
     for what, size in (("shrunk", slot_at(shape_of(BIG_IMAGE), 32)), ("emptied", 0)):
         shrunk: How = {"makes": BIG, "does": shrinks(size), "changes": {"a.img": BIG_IMAGE[:size]}}
-        yield Case(f"recover, the image is {what}", RECOVER, DISK_FAULT, Front(BIG_BITS), **shrunk)
-        yield Case(f"list, the image is {what}", LIST_EVERY, DISK_FAULT, Front(BIG_LISTING), **shrunk)
+        yield Case(f"recover, the image is {what}", RECOVER, DISK_FAULT, Front(BIG_BITS), lines=[why("a.img", SHORTER)], **shrunk)
+        yield Case(f"list, the image is {what}", LIST_EVERY, DISK_FAULT, Front(BIG_LISTING), lines=[why("a.img", SHORTER)], **shrunk)
     shrunk = {"changes": {"a.img": recorded(IMAGE, BITS[:384])[:700]}, "does": shrinks_while_recorded_in}
     yield Case("record, the image is shrunk", RECORD, DISK_FAULT, lines=[*acks(12, 18), why("a.img", SHORTER)], given=PIPE, **shrunk)
     whole: How = {"lines": acks(12, 24), "given": PIPE}

@@ -52,7 +52,7 @@ OF_FDR = (10, "fdr: disk fault")
 
 FIRST, SECOND = "fault first", "fault second"
 
-# The causes that are told of faults, once a run is over.
+# The causes that are told of faults: that of a disk before the line that says which one failed, the others once a run is over.
 HELD = "held by another run"
 NOT_READY = "not ready"
 NO_PERMISSION = "no permission"
@@ -183,7 +183,7 @@ def shrink_in_turn(place: Place, run: Run) -> None:
     run.says(text_of(acks(NEXT, NEXT + 6)))
     os.truncate(place.room / "b.img", 700)
     run.feed(word_at(8_000_000, 5))
-    run.says(text_of([*acks(NEXT, NEXT + 6), SECOND, *acks(NEXT + 7, AFTER)]))
+    run.says(text_of([*acks(NEXT, NEXT + 6), why("b.img", SHORTER), SECOND, *acks(NEXT + 7, AFTER)]))
     os.truncate(place.room / "a.img", 700)
     run.feed(end_at(12_000_000))
 
@@ -194,7 +194,7 @@ def others_come(place: Place, run: Run) -> None:
     for name in ("a.img", "b.img"):
         for words in (["record", "t1.csv", name], ["recover", name], ["list", "t1.csv", name]):
             place.expect(words, OF_FDR, lines=[f"fdr: {name}: {HELD}"], program=place.beside("fdr"), given=TRACE)
-    place.expect(RECORD, DISK_FAULT, lines=[FIRST, SECOND, why("a.img", HELD), why("b.img", HELD)], given=TRACE)
+    place.expect(RECORD, DISK_FAULT, lines=[why("a.img", HELD), FIRST, why("b.img", HELD), SECOND], given=TRACE)
     run.feed(TRACE)
 
 
@@ -233,11 +233,11 @@ def one_fails(what: str, name: str, cause: str, **how: Any) -> Iterator[Case]:
     """Either image is this, which is a fault of its disk for this cause: the recording goes on with the other."""
     told = why(name, cause)
     words = ["record", "t1.csv", name, "b.img"]
-    yield Case(f"the first image is {what}", DONE, [FIRST, *acks(NEXT, AFTER), told], words, changes={"b.img": AGAIN}, **how)
+    yield Case(f"the first image is {what}", DONE, [told, FIRST, *acks(NEXT, AFTER)], words, changes={"b.img": AGAIN}, **how)
     words = ["record", "t1.csv", "a.img", name]
-    yield Case(f"the second image is {what}", DONE, [SECOND, *acks(NEXT, AFTER), told], words, changes={"a.img": AGAIN}, **how)
+    yield Case(f"the second image is {what}", DONE, [told, SECOND, *acks(NEXT, AFTER)], words, changes={"a.img": AGAIN}, **how)
     words = ["record", "t1.csv", name, name]
-    yield Case(f"both images are {what}", DISK_FAULT, [FIRST, SECOND, told, told], words, **how)
+    yield Case(f"both images are {what}", DISK_FAULT, [told, FIRST, told, SECOND], words, **how)
 
 
 def one_is_refused(what: str, fault: str, image: bytes) -> Iterator[Case]:
@@ -247,10 +247,10 @@ def one_is_refused(what: str, fault: str, image: bytes) -> Iterator[Case]:
     yield Case(f"both images are {what}", refused("first", fault), makes=images(image, image))
     words = ["record", "t1.csv", "folder", "b.img"]
     failed = all_of(images(IMAGE, image), subfolder)
-    yield Case(f"the second image is {what}, and the first disk failed", refused("second", fault), [FIRST, why("folder", A_FOLDER)], words, makes=failed)
+    yield Case(f"the second image is {what}, and the first disk failed", refused("second", fault), [why("folder", A_FOLDER), FIRST], words, makes=failed)
     words = ["record", "t1.csv", "a.img", "folder"]
     failed = all_of(images(image, IMAGE), subfolder)
-    yield Case(f"the first image is {what}, and the second disk failed", refused("first", fault), [SECOND, why("folder", A_FOLDER)], words, makes=failed)
+    yield Case(f"the first image is {what}, and the second disk failed", refused("first", fault), [why("folder", A_FOLDER), SECOND], words, makes=failed)
 
 
 def word_cases() -> Iterator[Case]:
@@ -298,7 +298,7 @@ def start_cases() -> Iterator[Case]:
     yield Case("the second is too far behind", far_behind("second"), makes=images(longer(IMAGE, 16), IMAGE))
     yield Case("the first is too far behind", far_behind("first"), makes=images(IMAGE, longer(IMAGE, 16)))
     yield Case("the second is empty, and the first went round", far_behind("second"), makes=images(AGAIN, EMPTY))
-    yield Case("the other side is too far behind, and its disk failed", DONE, [SECOND, *acks(28, 40), why("b.img", HELD)],
+    yield Case("the other side is too far behind, and its disk failed", DONE, [why("b.img", HELD), SECOND, *acks(28, 40)],
                makes=all_of(images(longer(IMAGE, 16), IMAGE), locked(fcntl.LOCK_EX, "b.img")), changes={"a.img": recorded(longer(IMAGE, 16), BITS)})
     last = with_last(NUMBERS - 3)
     yield Case("two numbers are left", USED_UP, acks(NUMBERS - 2, NUMBERS), makes=images(last, last),
@@ -335,7 +335,7 @@ def refusal_cases() -> Iterator[Case]:
     yield Case("both are for other frames", OTHER_WORDS, makes=images(wide, wide))
     old_and_wide = empty_image(16, 64, words=128, version=VERSION_1)
     yield Case("both are of version 1 and for other frames", OTHER_WORDS, makes=images(old_and_wide, old_and_wide))
-    failed: How = {"words": ["record", "t1.csv", "folder", "b.img"], "lines": [FIRST, why("folder", A_FOLDER)]}
+    failed: How = {"words": ["record", "t1.csv", "folder", "b.img"], "lines": [why("folder", A_FOLDER), FIRST]}
     yield Case("the second is for other frames, and the first disk failed", OTHER_WORDS, makes=all_of(images(IMAGE, wide), subfolder), **failed)
     old = recorded(empty_image(16, 64, version=VERSION_1), BITS)
     yield Case("both are of version 1", OLD_VERSION, makes=images(old, old))
@@ -374,20 +374,20 @@ def fault_cases() -> Iterator[Case]:
     for bits, what in ((0o000, "may not be read"), (0o444, "may not be written")):
         of_first, of_second = why("a.img", NO_PERMISSION), why("b.img", NO_PERMISSION)
         of_both: How = {"user": NOBODY, "makes": in_other_hands(("a.img", bits))}
-        yield Case(f"the first image {what}", DONE, [FIRST, *acks(NEXT, AFTER), of_first], changes={"b.img": AGAIN}, **of_both)
+        yield Case(f"the first image {what}", DONE, [of_first, FIRST, *acks(NEXT, AFTER)], changes={"b.img": AGAIN}, **of_both)
         of_both = {"user": NOBODY, "makes": in_other_hands(("b.img", bits))}
-        yield Case(f"the second image {what}", DONE, [SECOND, *acks(NEXT, AFTER), of_second], changes={"a.img": AGAIN}, **of_both)
+        yield Case(f"the second image {what}", DONE, [of_second, SECOND, *acks(NEXT, AFTER)], changes={"a.img": AGAIN}, **of_both)
         of_both = {"user": NOBODY, "makes": in_other_hands(("a.img", bits), ("b.img", bits))}
-        yield Case(f"both images: {what}", DISK_FAULT, [FIRST, SECOND, of_first, of_second], **of_both)
+        yield Case(f"both images: {what}", DISK_FAULT, [of_first, FIRST, of_second, SECOND], **of_both)
 
     for how, what in ((fcntl.LOCK_EX, "recorded in"), (fcntl.LOCK_SH, "read")):
         of_first, of_second = why("a.img", HELD), why("b.img", HELD)
         held: How = {"makes": locked(how, "a.img"), "changes": {"b.img": AGAIN}}
-        yield Case(f"the first image is {what} by another", DONE, [FIRST, *acks(NEXT, AFTER), of_first], **held)
+        yield Case(f"the first image is {what} by another", DONE, [of_first, FIRST, *acks(NEXT, AFTER)], **held)
         held = {"makes": locked(how, "b.img"), "changes": {"a.img": AGAIN}}
-        yield Case(f"the second image is {what} by another", DONE, [SECOND, *acks(NEXT, AFTER), of_second], **held)
+        yield Case(f"the second image is {what} by another", DONE, [of_second, SECOND, *acks(NEXT, AFTER)], **held)
         both = locked(how, "a.img", "b.img")
-        yield Case(f"both images are {what} by another", DISK_FAULT, [FIRST, SECOND, of_first, of_second], makes=both)
+        yield Case(f"both images are {what} by another", DISK_FAULT, [of_first, FIRST, of_second, SECOND], makes=both)
 
     once: dict[str, tuple[str, Maker | None]] = {
         "the same image twice": ("a.img", None),
@@ -396,7 +396,7 @@ def fault_cases() -> Iterator[Case]:
         "the same image by another name": ("same.img", same_file),
     }
     for what, (name, makes) in once.items():
-        told = [SECOND, *acks(NEXT, AFTER), why(name, HELD)]
+        told = [why(name, HELD), SECOND, *acks(NEXT, AFTER)]
         changes = dict.fromkeys(["a.img", "same.img"] if makes is same_file else ["a.img"], AGAIN)
         yield Case(what, DONE, told, ["record", "t1.csv", "a.img", name], makes=makes, changes=changes)
     yield Case("links to both images", DONE, acks(NEXT, AFTER), ["record", "t1.csv", "link", "b.img"], makes=link("a.img"), changes=WHOLE)
@@ -405,15 +405,15 @@ def fault_cases() -> Iterator[Case]:
 def meanwhile_cases() -> Iterator[Case]:
     cut = recorded(IMAGE, SIXTH)[:700]
     lost: How = {"given": PIPE, "does": shrink(700, "b.img"), "changes": {"a.img": AGAIN, "b.img": cut}}
-    yield Case("the second image is shrunk", DONE, [*acks(NEXT, NEXT + 6), SECOND, *acks(NEXT + 7, AFTER), why("b.img", SHORTER)], **lost)
+    yield Case("the second image is shrunk", DONE, [*acks(NEXT, NEXT + 6), why("b.img", SHORTER), SECOND, *acks(NEXT + 7, AFTER)], **lost)
     lost = {"given": PIPE, "does": shrink(700, "a.img"), "changes": {"a.img": cut, "b.img": AGAIN}}
-    yield Case("the first image is shrunk", DONE, [*acks(NEXT, NEXT + 6), FIRST, *acks(NEXT + 7, AFTER), why("a.img", SHORTER)], **lost)
+    yield Case("the first image is shrunk", DONE, [*acks(NEXT, NEXT + 6), why("a.img", SHORTER), FIRST, *acks(NEXT + 7, AFTER)], **lost)
     lost = {"given": PIPE, "does": shrink(0, "a.img"), "changes": {"a.img": b"", "b.img": AGAIN}}
-    yield Case("the first image is emptied", DONE, [*acks(NEXT, NEXT + 6), FIRST, *acks(NEXT + 7, AFTER), why("a.img", SHORTER)], **lost)
+    yield Case("the first image is emptied", DONE, [*acks(NEXT, NEXT + 6), why("a.img", SHORTER), FIRST, *acks(NEXT + 7, AFTER)], **lost)
     lost = {"given": PIPE, "does": shrink(700, "a.img", "b.img"), "changes": {"a.img": cut, "b.img": cut}}
-    shorter = [why("a.img", SHORTER), why("b.img", SHORTER)]
-    yield Case("both images are shrunk", DISK_FAULT, [*acks(NEXT, NEXT + 6), FIRST, SECOND, *shorter], **lost)
-    lines = [*acks(NEXT, NEXT + 6), SECOND, *acks(NEXT + 7, AFTER), FIRST, *shorter]
+    of_first, of_second = [why("a.img", SHORTER), FIRST], [why("b.img", SHORTER), SECOND]
+    yield Case("both images are shrunk", DISK_FAULT, [*acks(NEXT, NEXT + 6), *of_first, *of_second], **lost)
+    lines = [*acks(NEXT, NEXT + 6), *of_second, *acks(NEXT + 7, AFTER), *of_first]
     lost = {"given": PIPE, "does": shrink_in_turn, "changes": {"a.img": AGAIN[:700], "b.img": cut}}
     yield Case("one image is shrunk after the other", DISK_FAULT, lines, **lost)
     whole: How = {"lines": acks(NEXT, AFTER), "given": PIPE}
@@ -467,18 +467,18 @@ def table_cases() -> Iterator[Case]:
 def limit_cases() -> Iterator[Case]:
     five = dict.fromkeys(WHOLE, recorded(EMPTY, BITS[:320]))
     only: How = {"makes": images(EMPTY, EMPTY), "changes": five, **size_limit(slot_at(shape_of(EMPTY), 5))}
-    too_large = [why("a.img", TOO_LARGE_FILE), why("b.img", TOO_LARGE_FILE)]
+    too_large = [why("a.img", TOO_LARGE_FILE), FIRST, why("b.img", TOO_LARGE_FILE), SECOND]
     # A limit of the size of files ends a run by a signal, where that isn't ignored.
-    yield Case("at a limit of size", DISK_FAULT, [*acks(0, 5), FIRST, SECOND, *too_large], ignores=signal.SIGXFSZ, **only)
+    yield Case("at a limit of size", DISK_FAULT, [*acks(0, 5), *too_large], ignores=signal.SIGXFSZ, **only)
     yield Case("ended at a limit of size", PAST_SIZE, acks(0, 5), **only)
     of_first, of_second = why("a.img", OTHER_ERROR), why("b.img", OTHER_ERROR)
     # Its table and both images take a descriptor each, and so does the folder of each.
     yield Case("as few descriptors as it needs", DONE, acks(NEXT, AFTER), changes=WHOLE, **few_files(8))
-    told = [SECOND, *acks(NEXT, AFTER), of_second]
+    told = [of_second, SECOND, *acks(NEXT, AFTER)]
     yield Case("no descriptor for the second folder", DONE, told, changes={"a.img": AGAIN}, **few_files(7))
-    yield Case("no descriptor for a folder", DISK_FAULT, [FIRST, SECOND, of_first, of_second], **few_files(6))
-    yield Case("no descriptor for the second image", DISK_FAULT, [SECOND, FIRST, of_first, of_second], **few_files(5))
-    yield Case("no descriptor for an image", DISK_FAULT, [FIRST, SECOND, of_first, of_second], **few_files(4))
+    yield Case("no descriptor for a folder", DISK_FAULT, [of_first, FIRST, of_second, SECOND], **few_files(6))
+    yield Case("no descriptor for the second image", DISK_FAULT, [of_second, SECOND, of_first, FIRST], **few_files(5))
+    yield Case("no descriptor for an image", DISK_FAULT, [of_first, FIRST, of_second, SECOND], **few_files(4))
 
 
 def memory_cases() -> Iterator[Case]:
@@ -501,18 +501,18 @@ def mount_cases() -> Iterator[Case]:
     given = word_at(0, 5) + end_at(43_000_000)
     lacking: How = {"makes": holes, "given": given, "changes": {"a.img": recorded(large, FIVES[:4128]), "small/b.img": torn}}
     no_room = why("small/b.img", NO_ROOM)
-    yield Case("no room for the second, with holes", DONE, ["ack 0", SECOND, *acks(1, 2), no_room], on_second, **lacking)
-    yield Case("no room for the first, with holes", DONE, ["ack 0", FIRST, *acks(1, 2), no_room], on_first, **lacking)
+    yield Case("no room for the second, with holes", DONE, ["ack 0", no_room, SECOND, *acks(1, 2)], on_second, **lacking)
+    yield Case("no room for the first, with holes", DONE, ["ack 0", no_room, FIRST, *acks(1, 2)], on_first, **lacking)
     lead = recorded(large, FIVES[:4128])
     holes = all_of(file("a.img", lead), small, sparse_image("small/b.img", large), filled)
     lacking = {"makes": holes, "given": given, "changes": {"a.img": recorded(lead, FIVES[:4128]), "small/b.img": torn}}
-    yield Case("no room to bring up the second", DONE, [SECOND, *acks(2, 4), no_room], on_second, **lacking)
-    yield Case("no room to bring up the first", DONE, [FIRST, *acks(2, 4), no_room], on_first, **lacking)
+    yield Case("no room to bring up the second", DONE, [no_room, SECOND, *acks(2, 4)], on_second, **lacking)
+    yield Case("no room to bring up the first", DONE, [no_room, FIRST, *acks(2, 4)], on_first, **lacking)
     read_only = all_of(small, file("small/b.img", IMAGE), made_read_only)
     one: How = {"makes": read_only, "changes": {"a.img": AGAIN}}
     may_not = why("small/b.img", READ_ONLY_SYSTEM)
-    yield Case("the second's file system may only be read", DONE, [SECOND, *acks(NEXT, AFTER), may_not], on_second, **one)
-    yield Case("the first's file system may only be read", DONE, [FIRST, *acks(NEXT, AFTER), may_not], on_first, **one)
+    yield Case("the second's file system may only be read", DONE, [may_not, SECOND, *acks(NEXT, AFTER)], on_second, **one)
+    yield Case("the first's file system may only be read", DONE, [may_not, FIRST, *acks(NEXT, AFTER)], on_first, **one)
 
 
 def all_cases() -> Iterator[Case | InLittleMemory]:

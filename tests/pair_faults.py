@@ -8,6 +8,7 @@ Where the image that leads fails while the other is brought up to it, the answer
 """
 
 import itertools
+import os
 import pathlib
 import shutil
 import subprocess
@@ -85,13 +86,13 @@ def look(before: dict[str, bytes], side: str, ended: Ended) -> bool:
     missing = [(block.session, block.payload) for block in recovered(before[lead]) if block.number >= next_number(before[other])]
     want(not ended.later, f"the {side} image was used after its fault: {ended.later[:1]}")
     if ended.status == 18:
-        want(ended.others == [f"fault {side}", ended.cause, "fdrpair: lead disk fault"] and not ended.told, f"said {ended.others} after {ended.told}")
+        want(ended.others == [ended.cause, f"fault {side}", "fdrpair: lead disk fault"] and not ended.told, f"said {ended.others} after {ended.told}")
         want(side == lead and missing, f"the {side} image doesn't lead, or nothing is missing")
         want(ended.images[side] == before[side], "the lead was changed")
         some = [with_blocks(before[other], missing[:count]) for count in range(len(missing))]
         want(ended.images[other] in some, "the other image hasn't some of the lead's blocks")
         return False
-    want(ended.status == 0 and ended.others == [f"fault {side}", ended.cause], f"ended with {ended.status} and said {ended.others}")
+    want(ended.status == 0 and ended.others == [ended.cause, f"fault {side}"], f"ended with {ended.status} and said {ended.others}")
     # Where the lead failed early, the other goes on with its own blocks alone.
     first = ended.told[0]
     is_alone = first == next_number(before[other])
@@ -135,6 +136,38 @@ def fail_in_turn(program: pathlib.Path, room: pathlib.Path, first: bytes, second
     return calls, went_on
 
 
+def want_strace() -> None:
+    if not shutil.which("strace") or subprocess.run(["strace", "-o", "/dev/null", "true"], capture_output=True).returncode != 0:
+        raise Skipped("it needs strace")
+
+
+class WithoutLocks:
+    """A case of a file system that has no locks to give: two images, or one file that is given as both."""
+
+    def __init__(self, second: str) -> None:
+        self.second = second
+        self.name = f"without locks, and {second} is the second image"
+
+    def tried(self, place: Place) -> None:
+        want_strace()
+        before = started(5, 3)
+        (place.room / "t1.csv").write_bytes(T1)
+        for name in NAMES.values():
+            (place.room / name).write_bytes(before)
+        os.link(place.room / "a.img", place.room / "same.img")
+        (place.room / "link").symlink_to("a.img")
+        words: list[str | pathlib.Path] = ["strace", "-qq", "-o", "/dev/null", "-e", "inject=flock:error=EOPNOTSUPP:when=1+"]
+        words += [place.program, "record", "t1.csv", "a.img", self.second]
+        ended = subprocess.run(words, cwd=place.room, input=TRACE, capture_output=True, timeout=LIMIT)
+        others = [line for line in ended.stderr.decode().splitlines() if not line.startswith("ack ")]
+        is_one = self.second != "b.img"
+        said = [f"fdrpair: {self.second}: held by another run", "fault second"] if is_one else []
+        want(ended.returncode == 0 and others == said, f"ended with {ended.returncode} and said {others}")
+        after = with_blocks(before, [(next_session(before), block) for block in blocks_of(BITS, shape_of(before).payload)])
+        want((place.room / "a.img").read_bytes() == after, "a.img isn't as it should be")
+        want((place.room / "b.img").read_bytes() == (before if is_one else after), "b.img isn't as it should be")
+
+
 class Faults:
     """A case of faults: each call on one image of a pair."""
 
@@ -143,15 +176,15 @@ class Faults:
         self.name = f"each call on the {side} image fails in turn, {what}"
 
     def tried(self, place: Place) -> None:
-        can_trace = shutil.which("strace") and subprocess.run(["strace", "-o", "/dev/null", "true"], capture_output=True).returncode == 0
-        if not can_trace:
-            raise Skipped("it needs strace")
+        want_strace()
         calls, went_on = fail_in_turn(pathlib.Path(place.program), place.room, *PAIRS[self.what], self.side)
         want(calls > went_on or (self.what, self.side) != (LARGE, "first"), "no call of the lead failed while the other was brought up")
         self.name += f": {calls} calls, the recording went on after {went_on}"
 
 
-def fault_cases() -> Iterator[Faults]:
+def fault_cases() -> Iterator[Faults | WithoutLocks]:
+    for second in ("b.img", "./a.img", "link", "same.img"):
+        yield WithoutLocks(second)
     for what in PAIRS:
         for side in NAMES:
             yield Faults(what, side)

@@ -97,7 +97,7 @@ def want(found: object, wanted: object, what: str) -> None:
 
 def fault_of_second(trial: Trial, cause: str) -> list[str]:
     """What is said where the second disk failed and the recording went on."""
-    return ["fault second", f"fdrpair: {trial.images[1]}: {cause}"]
+    return [f"fdrpair: {trial.images[1]}: {cause}", "fault second"]
 
 
 def blocks_in(trace: bytes, shape: tuple[int, int] = SHAPE) -> int:

@@ -1,6 +1,6 @@
-//! Why a call of the system failed, in words.
+//! Why a call of the system failed, in words, and the line that says it.
 
-use std::io::ErrorKind;
+use std::io::{ErrorKind, Write};
 
 /// What is said of an error of this kind.
 pub fn cause_text(kind: ErrorKind) -> &'static str {
@@ -19,4 +19,14 @@ pub fn cause_text(kind: ErrorKind) -> &'static str {
         ErrorKind::BrokenPipe => "closed by its reader",
         _ => "input/output error",
     }
+}
+
+/// Writes the line of a cause, `PROGRAM: NAME: CAUSE`. That it can't be written changes nothing.
+pub fn tell_cause(to: &mut impl Write, program: &str, name: &str, cause: ErrorKind) {
+    let _ = to.write_all(program.as_bytes());
+    let _ = to.write_all(b": ");
+    let _ = to.write_all(name.as_bytes());
+    let _ = to.write_all(b": ");
+    let _ = to.write_all(cause_text(cause).as_bytes());
+    let _ = to.write_all(b"\n");
 }

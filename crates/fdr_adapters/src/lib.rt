@@ -10,5 +10,5 @@ pub use adapters::{
     FileDeck, FileSource, FileTwin, OutSink, deck_over, image_over, sink_into, source_over,
     twin_over,
 };
-pub use causes::cause_text;
+pub use causes::{cause_text, tell_cause};
 pub use twin::StorageTwin;

@@ -8,6 +8,7 @@ ghost use Rattle.fdr_adapters.specs.FaultLines.{side_fault_text};
 ghost use Rattle.fdr_adapters.specs.Twins.{twin_tells, twin_disk, pair_over, state_over, pair_faces, twin_state_is_sound, pair_is_sound};
 ghost use Rattle.fdr_adapters.specs.Twins.{pair_rest_here, pair_rest_then, twin_disk_is_measured};
 
+use crate::tell_cause;
 use fdr_deck::{Announced, Deck};
 use fdr_io::{Failed, PIECE};
 use fdr_storage::{Named, Numbers, Stream};
@@ -41,8 +42,15 @@ fn fault_line(side: Side) -> &'static [u8]
     }
 }
 
-// Tells that a disk failed. That it can't be written changes nothing.
-fn tell_fault(acknowledgements: &mut impl Write, side: Side) {
+// Tells why a disk failed, and that it did. That it can't be written changes nothing.
+fn tell_fault<S: Named + Drop>(
+    acknowledgements: &mut impl Write,
+    side: Side,
+    disk: &CountedFile<S>,
+) {
+    if let Some(cause) = disk.why() {
+        tell_cause(acknowledgements, "fdrpair", disk.name(), cause);
+    }
     let _ = acknowledgements.write_all(fault_line(side));
 }
 
@@ -77,12 +85,17 @@ impl<S: Named + Drop, I: Stream + Drop, A: Write + Drop> StorageTwin<S, I, A> {
         }
     }
 
-    /// Why a call of the disk of this side was refused or failed last, if one was or did.
+    /// Why a call of the disk of this side did nothing, where that was no fault, which it has told already.
     pub fn why(&self, side: Side) -> Option<ErrorKind> {
-        if self.turned == side {
-            self.current.why()
+        let disk = if self.turned == side {
+            &self.current
         } else {
-            self.other.why()
+            &self.other
+        };
+        if disk.has_no_fault() {
+            disk.why()
+        } else {
+            None
         }
     }
 
@@ -137,7 +150,7 @@ impl<S: Named + Drop, I: Stream + Drop, A: Write + Drop> Deck for StorageTwin<S,
     fn size(&mut self) -> Result<u64, Failed> {
         let outcome = self.current.size(&mut self.numbers);
         if outcome.is_err() && self.current.has_one_fault() {
-            tell_fault(&mut self.acknowledgements, self.turned);
+            tell_fault(&mut self.acknowledgements, self.turned, &self.current);
         }
         outcome
     }
@@ -146,7 +159,7 @@ impl<S: Named + Drop, I: Stream + Drop, A: Write + Drop> Deck for StorageTwin<S,
     fn provide(&mut self, size: u64) -> Result<(), Failed> {
         let outcome = self.current.provide(&mut self.numbers, size);
         if outcome.is_err() && self.current.has_one_fault() {
-            tell_fault(&mut self.acknowledgements, self.turned);
+            tell_fault(&mut self.acknowledgements, self.turned, &self.current);
         }
         outcome
     }
@@ -155,7 +168,7 @@ impl<S: Named + Drop, I: Stream + Drop, A: Write + Drop> Deck for StorageTwin<S,
     fn read(&mut self, at: u64, buf: &mut [u8]) -> Result<(), Failed> {
         let outcome = self.current.read(&mut self.numbers, at, buf);
         if outcome.is_err() && self.current.has_one_fault() {
-            tell_fault(&mut self.acknowledgements, self.turned);
+            tell_fault(&mut self.acknowledgements, self.turned, &self.current);
         }
         outcome
     }
@@ -164,7 +177,7 @@ impl<S: Named + Drop, I: Stream + Drop, A: Write + Drop> Deck for StorageTwin<S,
     fn write(&mut self, at: u64, bytes: &[u8]) -> Result<(), Failed> {
         let outcome = self.current.write(&mut self.numbers, at, bytes);
         if outcome.is_err() && self.current.has_one_fault() {
-            tell_fault(&mut self.acknowledgements, self.turned);
+            tell_fault(&mut self.acknowledgements, self.turned, &self.current);
         }
         outcome
     }
@@ -173,7 +186,7 @@ impl<S: Named + Drop, I: Stream + Drop, A: Write + Drop> Deck for StorageTwin<S,
     fn sync(&mut self) -> Result<(), Failed> {
         let outcome = self.current.sync(&mut self.numbers);
         if outcome.is_err() && self.current.has_one_fault() {
-            tell_fault(&mut self.acknowledgements, self.turned);
+            tell_fault(&mut self.acknowledgements, self.turned, &self.current);
         }
         outcome
     }
@@ -208,6 +221,7 @@ impl<S: Named + Drop, I: Stream + Drop, A: Write + Drop> Twin for StorageTwin<S,
     fn turn(&mut self, side: Side) {
         if self.turned != side {
             swap(&mut self.current, &mut self.other);
+            self.current.keep_apart_from(&self.other);
             self.turned = side;
         }
     }

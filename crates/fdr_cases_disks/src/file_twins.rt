@@ -132,7 +132,9 @@ fn a_side_goes_on_alone(rt: HostRuntime) {
     put_zeros(&rt, "whole.img", "short.img");
     let mut lines = Vec::new(rt.alloc());
     record_on_the_first(&rt, "whole.img", "short.img", &mut lines);
-    assert!(rt; lines.as_slice() == b"fault second\nack 3\n".as_slice());
+    assert!(rt;
+        lines.as_slice() == b"fdrpair: short.img: became shorter\nfault second\nack 3\n".as_slice()
+    );
     remove_both(&rt, "whole.img", "short.img");
 }
 
@@ -142,15 +144,14 @@ fn ask_a_folder(
     side: Side,
     call: Call,
     lines: &mut Vec<u8>,
-) -> (Option<ErrorKind>, Option<ErrorKind>) {
+) {
     let mut twin = twin_at(rt, ".", ".", b"", lines);
     assert!(rt; fails_twice(&mut twin, side, call));
-    (twin.why(Side::First), twin.why(Side::Second))
+    assert!(rt; twin.why(Side::First).is_none() && twin.why(Side::Second).is_none());
 }
 
 #[test]
 fn each_call_that_fails_is_told_of_its_side_once(rt: HostRuntime) {
-    let cause = Some(ErrorKind::IsADirectory);
     for call in [
         Call::Size,
         Call::Provide,
@@ -159,18 +160,40 @@ fn each_call_that_fails_is_told_of_its_side_once(rt: HostRuntime) {
         Call::Sync,
     ] {
         let mut lines = Vec::new(rt.alloc());
-        let causes = ask_a_folder(&rt, Side::First, call, &mut lines);
+        ask_a_folder(&rt, Side::First, call, &mut lines);
         assert!(rt;
-            lines.as_slice() == b"fault first\n".as_slice() && causes == (cause, None),
+            lines.as_slice() == b"fdrpair: .: is a folder\nfault first\n".as_slice(),
             "{call:?} of the first"
         );
         let mut lines = Vec::new(rt.alloc());
-        let causes = ask_a_folder(&rt, Side::Second, call, &mut lines);
+        ask_a_folder(&rt, Side::Second, call, &mut lines);
         assert!(rt;
-            lines.as_slice() == b"fault second\n".as_slice() && causes == (None, cause),
+            lines.as_slice() == b"fdrpair: .: is a folder\nfault second\n".as_slice(),
             "{call:?} of the second"
         );
     }
+}
+
+// Measures two files, of which the second isn't there.
+fn measure_both(
+    rt: &(impl Files<File = File> + Abort),
+    first: &str,
+    second: &str,
+    lines: &mut Vec<u8>,
+) -> (Option<ErrorKind>, Option<ErrorKind>) {
+    let mut twin = twin_at(rt, first, second, b"", lines);
+    assert!(rt; make(&mut twin, Side::First, Call::Size).is_ok());
+    assert!(rt; make(&mut twin, Side::Second, Call::Size).is_ok());
+    (twin.why(Side::First), twin.why(Side::Second))
+}
+
+#[test]
+fn a_file_that_is_missing_is_no_fault(rt: HostRuntime) {
+    put(&rt, "there.img", &[0; 100]);
+    let mut lines = Vec::new(rt.alloc());
+    let causes = measure_both(&rt, "there.img", "missing.img", &mut lines);
+    assert!(rt; causes == (None, Some(ErrorKind::NotFound)) && lines.is_empty());
+    remove(&rt, "there.img");
 }
 
 // Whether the first of two files can be written, and synced, where its folder is another file.
@@ -185,12 +208,13 @@ fn sync_in_another_folder<R: Files<File = File>>(files: &R, lines: &mut Vec<u8>)
 #[test]
 fn a_sync_that_is_not_whole_is_a_fault(rt: HostRuntime) {
     put_zeros(&rt, "named.img", "other.img");
-    for folder in ["missing", "/dev/null"] {
+    let missing = b"fdrpair: named.img: no such file\nfault first\n".as_slice();
+    let no_folder = b"fdrpair: named.img: is no file\nfault first\n".as_slice();
+    for (folder, said) in [("missing", missing), ("/dev/null", no_folder)] {
         let files = OtherFolder::new(&rt, folder);
         let mut lines = Vec::new(rt.alloc());
         assert!(rt;
-            sync_in_another_folder(&files, &mut lines) == (true, false)
-                && lines.as_slice() == b"fault first\n".as_slice(),
+            sync_in_another_folder(&files, &mut lines) == (true, false) && lines.as_slice() == said,
             "{folder}"
         );
     }

@@ -3,7 +3,7 @@
 
 mod usage;
 
-use fdr_adapters::{cause_text, image_over, source_over, twin_over};
+use fdr_adapters::{image_over, source_over, tell_cause, twin_over};
 use fdr_io::Input;
 use fdr_pair::{PairOutcome, PairWordsFault, read_pair_words, run_pair};
 use fdr_storage_deck::{ImageFile, Window};
@@ -43,15 +43,11 @@ fn record_on_files(rt: &HostRuntime, words: &[String]) -> PairOutcome {
     let second = image_of(rt, request.second.text());
     let mut twin = twin_over(first, second, rt.stdin(), rt.stderr());
     let outcome = run_pair(rt.alloc(), words, &mut table, &mut twin);
-    tell_cause(rt, request.first.text(), twin.why(Side::First));
-    tell_cause(rt, request.second.text(), twin.why(Side::Second));
+    tell(rt, request.first.text(), twin.why(Side::First));
+    tell(rt, request.second.text(), twin.why(Side::Second));
     match &outcome {
-        PairOutcome::ReadFault(Input::Table) => tell_cause(rt, request.table.text(), table.why()),
-        PairOutcome::ReadFault(Input::Line) => tell_cause(
-            rt,
-            "standard input",
-            twin.why_of_input(),
-        ),
+        PairOutcome::ReadFault(Input::Table) => tell(rt, request.table.text(), table.why()),
+        PairOutcome::ReadFault(Input::Line) => tell(rt, "standard input", twin.why_of_input()),
         _ => {}
     }
     outcome
@@ -66,14 +62,10 @@ fn image_of<'a>(rt: &'a HostRuntime, path: &'a str) -> ImageFile<SystemFile<'a, 
     }
 }
 
-/// Tells on standard error why a call of the system failed, if one did. That it can't be told changes nothing.
-fn tell_cause(rt: &HostRuntime, name: &str, cause: Option<ErrorKind>) {
+/// Tells on standard error why a call of the system did nothing, if one did.
+fn tell(rt: &HostRuntime, name: &str, cause: Option<ErrorKind>) {
     if let Some(cause) = cause {
-        let _ = rt.stderr().write_all(b"fdrpair: ");
-        let _ = rt.stderr().write_all(name.as_bytes());
-        let _ = rt.stderr().write_all(b": ");
-        let _ = rt.stderr().write_all(cause_text(cause).as_bytes());
-        let _ = rt.stderr().write_all(b"\n");
+        tell_cause(&mut rt.stderr(), "fdrpair", name, cause);
     }
 }
 
@@ -93,7 +85,7 @@ fn help(rt: &HostRuntime, words: &[String]) {
 }
 
 /// Tells the outcome on standard error. That it can't be told changes nothing of it.
-fn tell(rt: &HostRuntime, outcome: &PairOutcome) {
+fn tell_outcome(rt: &HostRuntime, outcome: &PairOutcome) {
     let text = outcome.text();
     if !text.bytes().is_empty() {
         let _ = rt.stderr().write_all(text.bytes());
@@ -106,6 +98,6 @@ fn main(rt: HostRuntime) -> ExitCode {
         Ok(words) => record_with_help(&rt, &words),
         Err(outcome) => outcome,
     };
-    tell(&rt, &outcome);
+    tell_outcome(&rt, &outcome);
     ExitCode::from(outcome.status())
 }

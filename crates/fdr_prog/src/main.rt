@@ -3,7 +3,7 @@
 
 mod usage;
 
-use fdr_adapters::{cause_text, deck_over, image_over, sink_into, source_over};
+use fdr_adapters::{deck_over, image_over, sink_into, source_over, tell_cause};
 use fdr_io::Input;
 use fdr_storage_deck::{AHEAD, ImageFile, Window};
 use fdr_storage_system::{LineReader, SystemFile};
@@ -11,7 +11,7 @@ use fdr_top::{Outcome, run};
 use fdr_words::{Request, WordsFault, read_words};
 use std::alloc::Global;
 use std::env::Env;
-use std::io::{BufReader, ErrorKind, IsTerminal, Stdin, Write};
+use std::io::{BufReader, IsTerminal, Stdin, Write};
 use std::process::ExitCode;
 use std::{env, io};
 use usage::explain;
@@ -72,7 +72,7 @@ fn run_on_files(rt: &HostRuntime, words: &[String]) -> Outcome {
         _ => (None, None),
     };
     if let (Some(name), Some(cause)) = (name, cause) {
-        tell_cause(rt, name, cause);
+        tell_cause(&mut rt.stderr(), "fdr", name, cause);
     }
     if !matches!(&outcome, Outcome::Done) {
         deck.discard();
@@ -93,15 +93,6 @@ fn help(rt: &HostRuntime, words: &[String]) {
     if rt.stderr().is_terminal() {
         let _ = explain(&mut rt.stderr(), words);
     }
-}
-
-/// Tells on standard error why a call of the system failed. That it can't be told changes nothing.
-fn tell_cause(rt: &HostRuntime, name: &str, cause: ErrorKind) {
-    let _ = rt.stderr().write_all(b"fdr: ");
-    let _ = rt.stderr().write_all(name.as_bytes());
-    let _ = rt.stderr().write_all(b": ");
-    let _ = rt.stderr().write_all(cause_text(cause).as_bytes());
-    let _ = rt.stderr().write_all(b"\n");
 }
 
 /// Tells the outcome on standard error. That it can't be told changes nothing of it.

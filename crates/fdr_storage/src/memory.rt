@@ -331,6 +331,10 @@ impl Storage for MemStorage {
 impl Named for MemStorage {
     ghost there = { λ s. s.there };
 
+    fn name(&self) -> &str {
+        "memory"
+    }
+
     fn look(&mut self) -> Result<Look, Absence> {
         match self.idle_call() {
             Ok(()) if self.there => Ok(LOOK),

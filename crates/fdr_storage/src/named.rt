@@ -3,6 +3,7 @@
 ghost use Rattle.std.specs.Prelude.{◌≡◌, Bool, [], true, false, length, IfOk, IfErr, OnOk, OnErr, IsTrue};
 ghost use Rattle.fdr_storage.specs.Names.{Idles, Fails, Misses, IsAbsent};
 ghost use Rattle.fdr_storage.specs.declared.named.Kind.TheVariants as kind;
+ghost use Rattle.fdr_storage.specs.declared.named.Lock.TheVariants as lock;
 
 use crate::Storage;
 use fdr_io::Failed;
@@ -54,6 +55,9 @@ pub trait Named: Storage {
     // Whether there is something of this name, where it is told.
     ghost there: { Self → Bool };
 
+    /// The name, as it was given.
+    fn name(&self) -> &str;
+
     /// What has this name. A link is followed.
     fn look(&mut self) -> Result<Look, Absence>
         ensures file { IfOk result (λ look. IsTrue Self.tells.bytes → look.kind ≡ kind.File) }
@@ -88,6 +92,7 @@ pub trait Named: Storage {
     /// holds it in a way that forbids this. The system takes a lock back when the file is closed, and so at the end of the
     /// run, however it ends.
     fn lock(&mut self, alone: bool) -> Result<Lock, Failed>
+        ensures taken { IfOk result (λ got. IsTrue Self.tells.bytes → got ≡ lock.Taken) }
         ensures idles { OnOk result (Idles Self.tells (Self.disk self.old) (Self.disk self.new)) }
         ensures fails { OnErr result (Fails Self.tells (Self.disk self.old) (Self.disk self.new)) }
         ensures there { there self.new ≡ there self.old };

@@ -158,6 +158,25 @@ impl<S: Named + Drop> CountedFile<S> {
         count(&mut self.faults, outcome)
     }
 
+    /// The name of the file, as it was given.
+    pub fn name(&self) -> &str {
+        self.image.name()
+    }
+
+    /// Where both turn out to be one file, and no lock tells so, opening this one is refused.
+    pub fn keep_apart_from(&mut self, other: &CountedFile<S>)
+        ensures storage { self.new.image.storage ≡ self.old.image.storage }
+        ensures extent { self.new.image.extent ≡ self.old.image.extent }
+        ensures faults { self.new.faults ≡ self.old.faults }
+    {
+        self.image.keep_apart_from(other.image.unlocked());
+    }
+
+    /// Whether no call failed.
+    pub fn has_no_fault(&self) -> bool {
+        self.faults == 0
+    }
+
     /// Whether the last call was the first that failed.
     pub fn has_one_fault(&self) -> bool {
         self.faults == 1

@@ -15,7 +15,7 @@ use crate::opening::{Found, open_by_name};
 use crate::tries::{length, sync, sync_all, sync_name};
 use crate::whole::{fill, read_whole, write_whole};
 use fdr_io::Failed;
-use fdr_storage::{Kind, Named, Numbers};
+use fdr_storage::{Kind, Named, Node, Numbers};
 use std::io::ErrorKind;
 
 // What `provide` did to the file.
@@ -38,6 +38,10 @@ pub struct ImageFile<S: Named + Drop> {
     storage: S,
     writes: bool,
     is_open: bool,
+    // Which file is open, where the system has no lock to give.
+    unlocked: Option<Node>,
+    // The file that it may not be, where no lock tells that it is.
+    apart_from: Option<Node>,
     provided: Provided,
     // Why it refused a call by itself.
     refusal: Option<ErrorKind>,
@@ -61,6 +65,8 @@ impl<S: Named + Drop> ImageFile<S> {
             storage,
             writes,
             is_open: false,
+            unlocked: None,
+            apart_from: None,
             provided: Provided::Nothing,
             refusal: None,
             extent: 0,
@@ -94,7 +100,16 @@ impl<S: Named + Drop> ImageFile<S> {
             return Ok(true);
         }
         match open_by_name(&mut self.storage, self.writes)? {
-            Found::Open(_) => {
+            Found::Open => {
+                self.is_open = true;
+                Ok(true)
+            }
+            Found::Unlocked(node) if self.apart_from == Some(node) => {
+                self.refusal = Some(ErrorKind::ResourceBusy);
+                Err(Failed)
+            }
+            Found::Unlocked(node) => {
+                self.unlocked = Some(node);
                 self.is_open = true;
                 Ok(true)
             }
@@ -152,6 +167,24 @@ impl<S: Named + Drop> ImageFile<S> {
         self.lasting = false;
     }
 
+    /// The name of the file, as it was given.
+    pub fn name(&self) -> &str {
+        self.storage.name()
+    }
+
+    /// Which file is open, where the system has no lock to give.
+    pub fn unlocked(&self) -> Option<Node> {
+        self.unlocked
+    }
+
+    /// Where this file turns out to be that one, and has no lock that would tell so, opening it is refused.
+    pub fn keep_apart_from(&mut self, other: Option<Node>)
+        ensures storage { self.new.storage ≡ self.old.storage }
+        ensures extent { self.new.extent ≡ self.old.extent }
+    {
+        self.apart_from = other;
+    }
+
     /// Why a call was refused or failed last, if one was or did.
     pub fn why(&self) -> Option<ErrorKind> {
         self.refusal.or(self.storage.last_error())
@@ -191,7 +224,7 @@ impl<S: Named + Drop> ImageFile<S> {
         Ok(self.extent)
     }
 
-    /// Fills the buffer with the bytes from `at` on.
+    /// Fills the buffer with the bytes from `at` on. Where no call of the system failed, but the file ended, it became shorter.
     pub fn read(&mut self, numbers: &mut Numbers, at: u64, buf: &mut [u8]) -> Result<(), Failed>
         requires { at + length buf.old ≤ extent_of S.tells (S.disk self.old.storage) self.old.extent }
         ensures reads { OnOk result (IsTrue S.tells.bytes → buf.new ≡ slice_range (S.disk self.old.storage).held at (at + length buf.new)) }
@@ -205,10 +238,14 @@ impl<S: Named + Drop> ImageFile<S> {
         let _extent = self.extent;
         self.begin(numbers)?;
         self.ready()?;
-        match &mut self.window {
+        let outcome = match &mut self.window {
             Some(window) => window.read(&mut self.storage, at, buf),
             None => read_whole(&mut self.storage, at, buf),
+        };
+        if outcome.is_err() && self.storage.last_error().is_none() {
+            self.refusal = Some(ErrorKind::UnexpectedEof);
         }
+        outcome
     }
 
     /// Writes the bytes over those from `at` on. A file that became shorter since its length was learned isn't made longer

@@ -5,13 +5,15 @@ ghost use Rattle.fdr_storage.specs.Names.{Idles, Fails};
 ghost use Rattle.fdr_storage_deck.specs.Finds.{Agrees};
 
 use fdr_io::Failed;
-use fdr_storage::{Absence, Kind, Lock, Named};
+use fdr_storage::{Absence, Kind, Lock, Named, Node};
 
 /// What opening a file by its name found.
 #[derive(Clone, Copy, Debug, PartialEq, Eq)]
 pub enum Found {
-    /// A file, which is open.
-    Open(Lock),
+    /// A file, which is open and whose lock is taken.
+    Open,
+    /// This file, which is open. The system has no lock to give.
+    Unlocked(Node),
     /// Nothing has this name.
     Missing,
     /// What has this name is no file.
@@ -61,8 +63,10 @@ fn lock_file<S: Named>(named: &mut S, alone: bool) -> Result<Found, Failed>
         Kind::File => {}
         kind => return Ok(Found::NoFile(kind)),
     }
-    let lock = named.lock(alone)?;
-    Ok(Found::Open(lock))
+    match named.lock(alone)? {
+        Lock::Taken => Ok(Found::Open),
+        Lock::Missing => Ok(Found::Unlocked(look.node)),
+    }
 }
 
 // Whether there is nothing, or a link that leads to nothing.

@@ -107,6 +107,10 @@ impl<R: Files<File = File>> Storage for SystemFile<'_, R> {
 impl<R: Files<File = File>> Named for SystemFile<'_, R> {
     ghost there = { λ file. true };
 
+    fn name(&self) -> &str {
+        self.path
+    }
+
     fn look(&mut self) -> Result<Look, Absence> {
         let outcome = fs::metadata(self.files, self.path);
         self.told_by_name(outcome.map(look_of))

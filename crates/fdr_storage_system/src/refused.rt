@@ -36,6 +36,5 @@ pub fn opened<'f>(
     file: &'f Option<File>,
     last: &mut Option<ErrorKind>,
 ) -> Result<&'f File, Refusal> {
-    let none = io::Error::from(ErrorKind::NotFound);
-    told(last, file.as_ref().ok_or(none))
+    told(last, file.as_ref().ok_or(ErrorKind::NotFound.into()))
 }
