@@ -1,10 +1,10 @@
 -- Each block of a list is in one of its stretches; and each run is all that the image has of its numbers.
 use Rattle.std.proofs.Common.{◌≡◌, ⊎_elim, ℕ, ◌+◌, ◌≤◌, Bool, cond, List, [], ◌∷◌, ◌++◌, length, get_or, map, Some, refl, sym, ap, ◌∙◌, subst}
 use Rattle.std.proofs.Common.{arith}
-use Rattle.std.specs.Prelude.{◌==◌, ◌||◌, All, count_by, sum_by, filter, option_map}
+use Rattle.std.specs.Prelude.{◌==◌, ◌||◌, All, count_by, sum, filter, option_map}
 use Rattle.std.specs.List.{flat_map, list_any, cons_option}
 use Rattle.std.proofs.lemmas.Bool.{cases_Bool, or_left}
-use Rattle.std.proofs.lemmas.List.Sums.{sum_by-cons, sum_by-append, length-filter}
+use Rattle.std.proofs.lemmas.List.Sums.{sum_by-cons, sum_by-append, sum-map, length-filter}
 use Rattle.std.proofs.lemmas.List.{map-id, take_at, drop_at}
 use Rattle.std.proofs.lemmas.Simd.{map-map}
 use Rattle.std.proofs.lemmas.List.Elements.{All-nil, All-cons, All-take, All-drop}
@@ -43,11 +43,6 @@ module _ {X : Type 0} (q : X → Bool) where
       let rest = parts_count parts (omega (arith, few, all)) in
       omega (arith, sum_by-cons (λ p. cond (list_any q p) 1 0) part parts, all, here, rest)
 
-sum_by-map : {X Y : Type 0} (f : Y → ℕ) (g : X → Y) (xs : List X) → sum_by f (map g xs) ≡ sum_by (λ x. f (g x)) xs
-sum_by-map f g [] = refl
-sum_by-map f g (x ∷ xs) =
-    omega (arith, sum_by-cons f (g x) (map g xs), sum_by-cons (λ y. f (g y)) x xs, sum_by-map f g xs)
-
 -- the block of a slot is in one run
 pub in_one_run : (h : Header) (image : List ℕ) (slot : ℕ) (b : Block) → IsInLimits h → block_in h image slot ≡ Some b
     → length (filter (has_number b.number) (runs_of h image)) ≡ 1
@@ -58,8 +53,11 @@ in_one_run h image slot b limits is =
     times_valid h image b.number limits
     ∙ ap (λ o. times b.number (cons_option (option_map (λ (x : Block). x.number) o) [])) there
     ∙ times-here b.number b.number [] refl in
+    let mark : ℕ → ℕ = λ y. cond (y == b.number) 1 0 in
+    let number : Block → ℕ = λ x. x.number in
     let among : count_by (λ (x : Block). x.number == b.number) (valid_blocks h image) ≡ 1 =
-    sym (sum_by-map (λ y. cond (y == b.number) 1 0) (λ (x : Block). x.number) (valid_blocks h image)) ∙ once in
+    sym (sum-map (λ x. mark (number x)) (valid_blocks h image)) ∙ ap sum (sym (map-map mark number (valid_blocks h image)))
+    ∙ sum-map mark (map number (valid_blocks h image)) ∙ once in
     let whole = ap (count_by (λ (x : Block). x.number == b.number)) (stretches-all goes_on_with (valid_blocks h image)) ∙ among in
     length-filter (has_number b.number) (runs_of h image)
     ∙ parts_count (λ (x : Block). x.number == b.number) (stretches goes_on_with (valid_blocks h image)) (omega (arith, whole)) ∙ whole

@@ -88,11 +88,7 @@ runs-last h image limits = ⊎_elim
     (λ some. let top = (next_of-is_next h image limits).stands some in
     let here = stands-standing_block h.slots (block_in h image) top.0.number top.0 top.1.0 refl in
     let next : suc top.0.number ≡ next_of h image = omega (arith, top.1.1) in
-    let ends = ends_below h image top.0.number top.0 here in
-    inr (
-      ends.0,
-      subst (λ k. stretches goes_on_with (blocks_between h image 0 k) ≡ ends.0 ++ run_below h.slots (block_in h image) k ∷ []) next ends.1,
-    ))
+    inr (subst (EndsBelow h image) next (ends_below h image top.0.number top.0 here)))
     (λ none. let zero : next_of h image ≡ 0 = omega (arith, none) in
     inl (ap (λ k. stretches goes_on_with (blocks_between h image 0 k)) zero, ap (run_below h.slots (block_in h image)) zero))
     (cases_lt 0 (next_of h image))

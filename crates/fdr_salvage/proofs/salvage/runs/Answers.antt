@@ -1,9 +1,9 @@
 use Rattle.std.proofs.Common.{◌<◌, length, map, sym, ap, ◌∙◌, subst, arith}
-use Rattle.std.specs.Prelude.{All, IsPermutation}
+use Rattle.std.specs.Prelude.{All}
 use Rattle.std.proofs.lemmas.List.Sorted.{All-permutation, length_permutation}
 use Rattle.std.proofs.lemmas.List.Sums.{get_or-le-sum_by}
 use Rattle.fdr_slot.specs.Limits.{sequence_end}
-use Rattle.fdr_salvage.specs.Runs.{valid_blocks, runs_of, blocks_in_run, run_length, slot_numbers}
+use Rattle.fdr_salvage.specs.Runs.{valid_blocks, runs_of, blocks_in_run, run_length}
 use Rattle.fdr_salvage.proofs.Numbers.{sorted_valid}
 use Rattle.fdr_salvage.proofs.InOne.{runs_by_numbers}
 use Rattle.fdr_salvage.proofs.salvage.runs.Goals as goal
@@ -20,8 +20,7 @@ returns-clause-runs g c = λ told.
     let h = c.args.h.now in
     let held = (g.D.Deck.state c.args.deck.now).held in
     let numbers = c.in_order.result.items in
-    let permutation : IsPermutation (slot_numbers h held h.slots) numbers =
-    subst (λ xs. IsPermutation xs numbers) (c.in_ok-read_numbers.ensures.numbers told) c.in_order.ensures.permutation in
+    let permutation = rw (c.in_ok-read_numbers.ensures.numbers told) at c.in_order.ensures.permutation in
     c.in_ok-join_numbers.ensures.joined (valid_blocks h held)
     (sorted_valid h held numbers c.requires.limits permutation c.in_order.ensures.order ∙ sym c.deref.ensures.value)
 
