@@ -1,9 +1,9 @@
 -- A state and another that means the same.
-use Rattle.std.proofs.Common.{inl, inr, ⊎_elim, ℕ, List, refl, sym, ◌∙◌, arith, subst}
+use Rattle.std.proofs.Common.{inl, inr, ⊎_elim, ℕ, List, refl, sym, ◌∙◌, arith}
 use Rattle.fdr_deck.specs.State.{State, Tells, Moment}
 use Rattle.fdr_deck.specs.Disk.{IsSettled}
 use Rattle.fdr_deck.specs.Pull.{KeepsInput}
-use Rattle.fdr_deck.specs.Moments.{Elapses, EachMoment}
+use Rattle.fdr_deck.specs.Moments.{Elapses}
 use Rattle.fdr_deck.specs.Calls.{KeepsAnnounced, Passes, IsDiskWork}
 use Rattle.fdr_twin.specs.Same.{IsSameState}
 
@@ -52,26 +52,19 @@ IsSettled-same a b same settled image leaves = settled image (same.left image le
 -- two states, and two that mean the same as these
 module _ (tells : Tells) (old new old' new' : State) (a : IsSameState old old') (b : IsSameState new new') where
   pub KeepsInput-same : KeepsInput old new → KeepsInput old' new'
-  KeepsInput-same keeps = record {
-    input = b.input ∙ keeps.input ∙ sym a.input;
-    taken = b.taken ∙ keeps.taken ∙ sym a.taken;
-    pulled_before = b.pulled_before ∙ keeps.pulled_before ∙ sym a.pulled_before;
-  }
+  KeepsInput-same keeps = record { input = cc; taken = cc; pulled_before = cc }
 
   pub KeepsAnnounced-same : KeepsAnnounced old new → KeepsAnnounced old' new'
   KeepsAnnounced-same keeps = record {
-    announced = b.announced ∙ keeps.announced ∙ sym a.announced;
-    numbers = ⊎_elim
-        (λ fresh. inl (b.least ∙ fresh.0 ∙ sym b.announced, b.greatest ∙ fresh.1 ∙ sym b.announced))
-        (λ kept. inr (b.least ∙ kept.0 ∙ sym a.least, b.greatest ∙ kept.1 ∙ sym a.greatest))
-        keeps.numbers;
+    announced = cc;
+    numbers = ⊎_elim (λ fresh. inl (cc, cc)) (λ kept. inr (cc, cc)) keeps.numbers;
   }
 
   since_there : (t : ℕ) (m : Moment) → new'.since old'.clock m → new.since old.clock m
-  since_there t m is = subst (λ (k : ℕ). new.since k m) a.clock (b.only old'.clock m is)
+  since_there t m is = rw a.clock at (b.only old'.clock m is)
 
   since_here : (m : Moment) → new.since old.clock m → new'.since old'.clock m
-  since_here m is = subst (λ (k : ℕ). new'.since k m) (sym a.clock) (b.moments old.clock m is)
+  since_here m is = rw a.clock (b.moments old.clock m is)
 
   pub Elapses-same : Elapses tells old new → Elapses tells old' new'
   Elapses-same time = record {
@@ -84,13 +77,10 @@ module _ (tells : Tells) (old new old' new' : State) (a : IsSameState old old') 
         (time.no_more told t m (omega (arith, le, a.clock)) (b.only t m since));
   }
 
-  pub EachMoment-same : (P : Moment → Type 0) → EachMoment tells old new P → EachMoment tells old' new' P
-  EachMoment-same P each told m since = each told m (since_there old.clock m since)
-
   pub Passes-same : Passes tells old new → Passes tells old' new'
   Passes-same passes = record {
     input = KeepsInput-same passes.input;
-    input_faults = b.input_faults ∙ passes.input_faults ∙ sym a.input_faults;
+    input_faults = cc;
     announced = KeepsAnnounced-same passes.announced;
     disk_faults = omega (arith, a.disk_faults, b.disk_faults, passes.disk_faults);
     time = Elapses-same passes.time;
@@ -103,7 +93,7 @@ module _ (tells : Tells) (old new old' new' : State) (a : IsSameState old old') 
       image = is.image;
       least = omega (arith, is.least, a.least);
       greatest = omega (arith, is.greatest, a.greatest);
-      pulled = record { taken = is.pulled.taken ∙ sym a.taken; pulled_before = is.pulled.pulled_before ∙ sym a.pulled_before };
+      pulled = record { taken = cc; pulled_before = cc };
     };
   }
 

@@ -59,6 +59,4 @@ pair_wider (e ∷ es) now later held leaves t m more (inr since) =
 
 pub pair_no_other : (es : List TwinEntry) (now later : Span) (held : Side → List ℕ) (leaves : Side → List ℕ → Type 0) (t : ℕ) (m : PairMoment) → t ≤ length es
     → pair_moments es later held leaves t m → pair_moments es now held leaves t m ⊎ pair_moments es later held leaves (length es) m
-pair_no_other es now later held leaves t m le =
-    subst (λ (l : List TwinEntry). pair_moments l later held leaves t m → pair_moments es now held leaves t m ⊎ pair_moments l later held leaves (length es) m)
-    (append-nil es) (pair_no_more es [] now later held leaves t m le)
+pair_no_other es now later held leaves t m le = rw (append-nil es) at (pair_no_more es [] now later held leaves t m le)

@@ -1,5 +1,5 @@
 -- The calls of a side, one by one.
-use Rattle.std.proofs.Common.{◌≡◌, ℕ, zero, suc, ◌<◌, List, [], ◌∷◌, length, take, get_or, refl, sym, ap, ◌∙◌, subst, ◌≤◌, arith}
+use Rattle.std.proofs.Common.{◌≡◌, ℕ, zero, suc, ◌<◌, List, [], ◌∷◌, length, take, get_or, refl, sym, ap, ◌∙◌, ◌≤◌, arith}
 use Rattle.std.proofs.lemmas.List.{take_all}
 use Rattle.fdr_deck.specs.Memory.{left_after, held_after}
 use Rattle.fdr_deck.proofs.MemoryStops.{IsLeft}
@@ -32,7 +32,5 @@ below_on side i es h = omega (arith, h, entries_long side es)
 pub left_all : (es : List Entry) (first now image : List ℕ) (i : ℕ) → i ≡ length es → IsLeft es first i now image
     → left_after es first (λ c. c ≡ first) image × (length (held_after es first) ≤ length image)
 left_all es first now image i all left =
-    let whole : take i es ≡ es = ap (λ (k : ℕ). take k es) all ∙ take_all (length es) es (omega arith) in (
-      subst (λ (l : List Entry). left_after l first (λ c. c ≡ first) image) whole left.left,
-      subst (λ (l : List Entry). length (held_after l first) ≤ length image) whole left.long,
-    )
+    let whole : take i es ≡ es = ap (λ (k : ℕ). take k es) all ∙ take_all (length es) es (omega arith) in
+    (rw whole at left.left, rw whole at left.long)

@@ -1,9 +1,6 @@
-use Rattle.std.proofs.Common.{◌≡◌, List, ℕ, length, subst, sym, ◌∙◌, ap, arith}
-use Rattle.fdr_deck.specs.declared.calls.Call.{Call}
-use Rattle.fdr_deck.specs.Memory.{IsStoppedAfter, FitsIn, FitsDisk, held_by}
-use Rattle.fdr_deck.specs.Stops.{image_after}
+use Rattle.std.proofs.Common.{arith}
 use Rattle.fdr_deck.proofs.MemoryStops.{IsLeft-start, IsLeft-inside, IsLeft-fits, IsLeft-more, image_before-start, image_before-more, image_before-all}
-use Rattle.fdr_twin.specs.TwinMemory.{call_of, entry_on, entries_on}
+use Rattle.fdr_twin.specs.TwinMemory.{entry_on, entries_on}
 use Rattle.fdr_twin.specs.TwinFaces.{entries_long}
 use Rattle.fdr_twin.proofs.TwinStops.{entry_is, below_on, left_all}
 use Rattle.fdr_twin.proofs.stops.stop_before.Goals as goal
@@ -19,7 +16,7 @@ loop-entry-init c = record {
 pub stop_after-requires : goal.stop_after-requires
 stop_after-requires c =
     let es = c.args.entries.now in
-    subst (λ (x : Call). FitsIn x (length c.loop-entry.left.items)) (sym c.seen_by-call.ensures)
+    rw c.seen_by-call.ensures
     (IsLeft-fits (entries_on c.args.side es) c.args.first.now c.loop-entry.entry-index c.loop-entry.held.items c.loop-entry.left.items
     (entry_on c.args.side c.entry-item.result) (below_on c.args.side c.loop-entry.entry-index es (omega arith))
     (entry_is c.args.side c.loop-entry.entry-index es c.entry-item.result c.entry-item.is) c.requires.inside c.loop-entry.invariant.left)
@@ -27,7 +24,7 @@ stop_after-requires c =
 pub replay-requires : goal.replay-requires
 replay-requires c =
     let es = c.args.entries.now in
-    subst (λ (x : Call). FitsDisk x c.loop-entry.held.items) (sym c.seen_by-call.ensures)
+    rw c.seen_by-call.ensures
     (IsLeft-inside (entries_on c.args.side es) c.args.first.now c.loop-entry.entry-index c.loop-entry.held.items c.loop-entry.left.items
     (entry_on c.args.side c.entry-item.result) (below_on c.args.side c.loop-entry.entry-index es (omega arith))
     (entry_is c.args.side c.loop-entry.entry-index es c.entry-item.result c.entry-item.is) c.requires.inside c.loop-entry.invariant.left)
@@ -38,17 +35,9 @@ loop-entry-preserved c =
     let e = entry_on c.args.side c.entry-item.result in
     let below = below_on c.args.side c.loop-entry.entry-index es (omega arith) in
     let is = entry_is c.args.side c.loop-entry.entry-index es c.entry-item.result c.entry-item.is in
-    let stopped : IsStoppedAfter e.call c.loop-entry.held.items c.loop-entry.left.items c.in_ok-left-2.left.items =
-    subst (λ (x : Call). IsStoppedAfter x c.loop-entry.held.items c.loop-entry.left.items c.in_ok-left-2.left.items) c.seen_by-call.ensures
-    (subst (λ (l : List ℕ). IsStoppedAfter (call_of c.seen_by-call.result.now) l c.loop-entry.left.items c.in_ok-left-2.left.items) c.deref.ensures.value
-    c.in_ok-left-2.ensures.stopped) in
-    let after : c.in_ok-left-2.left.items ≡ image_after c.args.tear e.call c.loop-entry.held.items c.loop-entry.left.items =
-    subst (λ (x : Call). c.in_ok-left-2.left.items ≡ image_after c.args.tear x c.loop-entry.held.items c.loop-entry.left.items) c.seen_by-call.ensures
-    (subst (λ (l : List ℕ). c.in_ok-left-2.left.items ≡ image_after c.args.tear
-    (call_of c.seen_by-call.result.now) l c.loop-entry.left.items) c.deref.ensures.value
-    c.in_ok-left-2.ensures.image) in
-    let replayed : c.replay.new.held.items ≡ held_by e.call c.loop-entry.held.items =
-    c.in_ok-replay.ensures ∙ ap (λ (x : Call). held_by x c.loop-entry.held.items) c.seen_by-call.ensures in
+    let stopped = rw (c.seen_by-call.ensures, c.deref.ensures.value) at c.in_ok-left-2.ensures.stopped in
+    let after = rw (c.seen_by-call.ensures, c.deref.ensures.value) at c.in_ok-left-2.ensures.image in
+    let replayed = rw c.seen_by-call.ensures at c.in_ok-replay.ensures in
     record {
       left = IsLeft-more (entries_on c.args.side es) c.args.first.now c.loop-entry.entry-index c.loop-entry.held.items
           c.loop-entry.left.items c.replay.new.held.items c.in_ok-left-2.left.items e below is c.requires.inside c.loop-entry.invariant.left replayed stopped;

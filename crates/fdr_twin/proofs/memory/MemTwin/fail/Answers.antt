@@ -1,6 +1,5 @@
-use Rattle.std.proofs.Common.{◌≤◌, inl, subst}
-use Rattle.fdr_twin.specs.TwinMemory.{TwinMemory, IsTwinLost, side_memory}
-use Rattle.fdr_twin.proofs.TwinSides.{side_entered, entered_twin_rest, entered_counted, failed_counted, lost_twin_rest}
+use Rattle.std.proofs.Common.{inl}
+use Rattle.fdr_twin.proofs.TwinSides.{side_entered, entered_twin_rest, entered_counted, failed_counted, lost_from}
 use Rattle.fdr_twin.proofs.memory.MemTwin.fail.Goals as goal
 
 pub returns-in-Ok-clause-entered : goal.returns-in-Ok-clause-entered
@@ -10,10 +9,7 @@ pub returns-in-Ok-clause-rest : goal.returns-in-Ok-clause-rest
 returns-in-Ok-clause-rest c = entered_twin_rest _ _ _ (entered_counted _ _ _ _ c.in-Ok.ensures.entered c.count.ensures.raised c.count.ensures.monotone)
 
 pub returns-in-Err-clause-rest : goal.returns-in-Err-clause-rest
-returns-in-Err-clause-rest c =
-    lost_twin_rest c.args.self.now c.lose.new.self
-    (subst (λ (x : TwinMemory). (side_memory x).disk_faults ≤ (side_memory c.lose.new.self).disk_faults) c.in-Err.ensures.unentered c.lose.ensures.monotone)
-    (subst (λ (x : TwinMemory). IsTwinLost x c.lose.new.self) c.in-Err.ensures.unentered c.lose.ensures.lost)
+returns-in-Err-clause-rest c = lost_from _ _ _ c.in-Err.ensures.unentered c.lose.ensures.monotone c.lose.ensures.lost
 
 pub returns-in-Ok-clause-made : goal.returns-in-Ok-clause-made
-returns-in-Ok-clause-made c = inl (failed_counted _ _ _ _ c.in-Ok.ensures.entered c.count.ensures.raised c.in-Ok.ensures.counts c.count.ensures.monotone)
+returns-in-Ok-clause-made c = inl (failed_counted _ _ _ _ c.in-Ok.ensures.entered c.count.ensures.raised c.count.ensures.monotone c.in-Ok.ensures.counts)

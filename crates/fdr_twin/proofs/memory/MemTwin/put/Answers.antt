@@ -1,6 +1,4 @@
-use Rattle.std.proofs.Common.{◌≤◌, subst}
-use Rattle.fdr_twin.specs.TwinMemory.{TwinMemory, side_memory}
-use Rattle.fdr_twin.proofs.TwinSides.{side_entered, entered_twin_rest, lost_twin_rest, lost_from}
+use Rattle.fdr_twin.proofs.TwinSides.{side_entered, entered_twin_rest, lost_from}
 use Rattle.fdr_twin.proofs.memory.MemTwin.put.Goals as goal
 
 pub returns-in-Ok-clause-entered : goal.returns-in-Ok-clause-entered
@@ -10,6 +8,4 @@ pub returns-in-Ok-clause-rest : goal.returns-in-Ok-clause-rest
 returns-in-Ok-clause-rest c = entered_twin_rest _ _ _ c.in-Ok.ensures.entered.2
 
 pub returns-in-Err-clause-rest : goal.returns-in-Err-clause-rest
-returns-in-Err-clause-rest c = lost_twin_rest c.args.self.now c.lose.new.self
-    (subst (λ (x : TwinMemory). (side_memory x).disk_faults ≤ (side_memory c.lose.new.self).disk_faults) c.in-Err.ensures.unentered c.lose.ensures.monotone)
-    (lost_from _ _ _ c.in-Err.ensures.unentered c.lose.ensures.lost)
+returns-in-Err-clause-rest c = lost_from _ _ _ c.in-Err.ensures.unentered c.lose.ensures.monotone c.lose.ensures.lost

@@ -1,49 +1,22 @@
 use Rattle.std.proofs.Common.{List, ℕ, length, ap, rules}
 use Rattle.fdr_deck.specs.declared.calls.Call.TheVariants.{Sync}
+use Rattle.fdr_deck.proofs.Composing.{refusal}
 use Rattle.fdr_deck.proofs.MemoryCalls.{held_entered, passes_entered}
 use Rattle.fdr_deck.proofs.MemoryDisk.{settled_sync, no_more_sync, within_sync}
 use Rattle.fdr_deck.proofs.MemoryPass.{extent_passed, disk_passed, passes_passed, within_passed}
-use Rattle.fdr_deck.specs.Disk.{KeepsDisk}
-use Rattle.fdr_deck.specs.Memory.{memory_state}
-use Rattle.fdr_twin.specs.TwinMemory.{side_memory}
 use Rattle.fdr_twin.proofs.memory.MemTwinDeck.sync.Goals as goal
 
-pub returns-in_err-pass-clause-extent : goal.returns-in_err-pass-clause-extent
-returns-in_err-pass-clause-extent c = extent_passed (side_memory c.args.self.now) (side_memory c.pass.new.self) c.in_err-pass.ensures.failed
+pub returns-in_err-pass : goal.returns-in_err-pass
+returns-in_err-pass c =
+    let is = c.in_err-pass.ensures.failed in
+    let passes = passes_passed _ _ is c.pass.ensures.pulled c.pass.ensures.monotone in
+    rw (refusal _ _ c.from_residual.ensures.1)
+    (search (rules, passes, extent_passed _ _ is, disk_passed _ _ is, within_passed _ _ is, c.in_err-pass.ensures))
 
-pub returns-in_err-pass-clause-passes : goal.returns-in_err-pass-clause-passes
-returns-in_err-pass-clause-passes c = passes_passed (side_memory c.args.self.now)
-    (side_memory c.pass.new.self) c.in_err-pass.ensures.failed c.pass.ensures.pulled c.pass.ensures.monotone
-
-pub returns-in_err-pass-clause-moments : goal.returns-in_err-pass-clause-moments
-returns-in_err-pass-clause-moments c = within_passed (side_memory c.args.self.now) (side_memory c.pass.new.self) c.in_err-pass.ensures.failed
-
-pub returns-in_err-pass-clause-held : goal.returns-in_err-pass-clause-held
-returns-in_err-pass-clause-held c = (disk_passed (side_memory c.args.self.now) (side_memory c.pass.new.self) c.in_err-pass.ensures.failed).held
-
-pub returns-in_err-pass-clause-no_more : goal.returns-in_err-pass-clause-no_more
-returns-in_err-pass-clause-no_more c = (disk_passed (side_memory c.args.self.now) (side_memory c.pass.new.self) c.in_err-pass.ensures.failed).no_more
-
-pub returns-in_err-pass-clause-pending : goal.returns-in_err-pass-clause-pending
-returns-in_err-pass-clause-pending c = let kept : KeepsDisk (memory_state (side_memory c.args.self.now)) (memory_state (side_memory c.pass.new.self)) =
-    disk_passed (side_memory c.args.self.now) (side_memory c.pass.new.self) c.in_err-pass.ensures.failed in search rules
-
-pub returns-clause-settles : goal.returns-clause-settles
-returns-clause-settles c = λ told. settled_sync (side_memory c.args.self.now) (side_memory c.pass.new.self) c.in_ok-pass.ensures.entered
-
-pub returns-clause-held : goal.returns-clause-held
-returns-clause-held c = held_entered Sync (side_memory c.args.self.now) (side_memory c.pass.new.self) c.in_ok-pass.ensures.entered
-
-pub returns-clause-no_more : goal.returns-clause-no_more
-returns-clause-no_more c = no_more_sync (side_memory c.args.self.now) (side_memory c.pass.new.self) c.in_ok-pass.ensures.entered
-
-pub returns-clause-extent : goal.returns-clause-extent
-returns-clause-extent c = ap (λ (l : List ℕ). length l) (held_entered Sync (side_memory c.args.self.now)
-    (side_memory c.pass.new.self) c.in_ok-pass.ensures.entered)
-
-pub returns-clause-passes : goal.returns-clause-passes
-returns-clause-passes c = passes_entered Sync (side_memory c.args.self.now)
-    (side_memory c.pass.new.self) c.in_ok-pass.ensures.entered c.pass.ensures.pulled c.pass.ensures.monotone
-
-pub returns-clause-moments : goal.returns-clause-moments
-returns-clause-moments c = within_sync (side_memory c.args.self.now) (side_memory c.pass.new.self) c.in_ok-pass.ensures.entered
+pub returns : goal.returns
+returns c =
+    let is = c.in_ok-pass.ensures.entered in
+    let held = held_entered Sync _ _ is in
+    let extent = ap (λ (l : List ℕ). length l) held in
+    let passes = passes_entered Sync _ _ is c.pass.ensures.pulled c.pass.ensures.monotone in
+    search (rules, held, extent, passes, settled_sync _ _ is, no_more_sync _ _ is, within_sync _ _ is, c.in_ok-pass.ensures, c.pass.ensures)

@@ -1,61 +1,39 @@
-use Rattle.std.proofs.Common.{length, arith}
-use Rattle.std.proofs.lemmas.Grind.{common_steps}
+use Rattle.std.proofs.Common.{length, inl, inr, ⊎_elim, rules}
+use Rattle.fdr_deck.proofs.Composing.{refusal}
 use Rattle.fdr_deck.proofs.MemoryDisk.{passes_unentered, within_unentered}
 use Rattle.fdr_deck.proofs.MemoryWrite.{tears_unentered, writes_put, tears_put, extent_put, passes_put, within_put, tears_failed}
 use Rattle.fdr_deck.proofs.MemoryWrite.{pending_failed, extent_failed, passes_failed, within_failed}
-use Rattle.fdr_twin.specs.TwinMemory.{side_memory}
-use Rattle.fdr_twin.proofs.TwinSides.{side_numbered}
+use Rattle.fdr_twin.specs.TwinMemory.{IsToFail, IsFailedTwinCall}
+use Rattle.fdr_twin.proofs.TwinSides.{side_numbered, failed_numbered}
 use Rattle.fdr_twin.proofs.memory.MemTwinDeck.write.Goals as goal
 
-pub returns-then-fails-clause-tears : goal.returns-then-fails-clause-tears
-returns-then-fails-clause-tears c = tears_failed c.args.at c.args.bytes.now (side_memory c.args.self.now)
-    (side_memory c.fail_write.new.self) c.fail_write.ensures.entered
+pub returns-then-fails : goal.returns-then-fails
+returns-then-fails c =
+    let at = c.args.at in
+    let bytes = c.args.bytes.now in
+    let failed = c.fail_write.ensures in
+    let is = failed.entered in
+    let listed : IsToFail c.args.self.now = search rules in
+    let unlisted : IsFailedTwinCall c.args.self.now c.fail_write.new.self =
+    ⊎_elim (λ made. inl (listed, failed_numbered _ _ _ made.2)) (λ lost. inr lost) failed.made in
+    let passes = passes_failed at bytes _ _ is failed.pulled failed.monotone in
+    let pending = pending_failed at bytes _ _ is in
+    let numbered = side_numbered c.args.self.now c.fail_write.new.self in
+    search (rules, unlisted, passes, pending, numbered, tears_failed at bytes _ _ is, extent_failed at bytes _ _ is, within_failed at bytes _ _ is, failed)
 
-pub returns-then-fails-clause-extent : goal.returns-then-fails-clause-extent
-returns-then-fails-clause-extent c = extent_failed c.args.at c.args.bytes.now (side_memory c.args.self.now)
-    (side_memory c.fail_write.new.self) c.fail_write.ensures.entered
+pub returns-in_err-put : goal.returns-in_err-put
+returns-in_err-put c =
+    let is = c.in_err-put.ensures.unentered in
+    let tears = tears_unentered c.args.at (length c.args.bytes.now) _ _ is in
+    let passes = passes_unentered _ _ is c.put.ensures.pulled c.put.ensures.monotone in
+    rw (refusal _ _ c.from_residual.ensures.1) (search (rules, tears, passes, within_unentered _ _ is, c.in_err-put.ensures, c.put.ensures))
 
-pub returns-then-fails-clause-passes : goal.returns-then-fails-clause-passes
-returns-then-fails-clause-passes c = passes_failed c.args.at c.args.bytes.now (side_memory c.args.self.now)
-    (side_memory c.fail_write.new.self) c.fail_write.ensures.entered
-    c.fail_write.ensures.pulled c.fail_write.ensures.monotone
-
-pub returns-then-fails-clause-moments : goal.returns-then-fails-clause-moments
-returns-then-fails-clause-moments c = within_failed c.args.at c.args.bytes.now (side_memory c.args.self.now)
-    (side_memory c.fail_write.new.self) c.fail_write.ensures.entered
-
-pub returns-in_err-put-clause-tears : goal.returns-in_err-put-clause-tears
-returns-in_err-put-clause-tears c = tears_unentered c.args.at (length c.args.bytes.now) (side_memory c.args.self.now)
-    (side_memory c.put.new.self) c.in_err-put.ensures.unentered
-
-pub returns-in_err-put-clause-passes : goal.returns-in_err-put-clause-passes
-returns-in_err-put-clause-passes c = passes_unentered (side_memory c.args.self.now)
-    (side_memory c.put.new.self) c.in_err-put.ensures.unentered c.put.ensures.pulled c.put.ensures.monotone
-
-pub returns-in_err-put-clause-moments : goal.returns-in_err-put-clause-moments
-returns-in_err-put-clause-moments c = within_unentered (side_memory c.args.self.now) (side_memory c.put.new.self) c.in_err-put.ensures.unentered
-
-pub returns-clause-writes : goal.returns-clause-writes
-returns-clause-writes c = writes_put c.args.at c.args.bytes.now (side_memory c.args.self.now) (side_memory c.put.new.self) c.in_ok-put.ensures.entered
-
-pub returns-clause-tears : goal.returns-clause-tears
-returns-clause-tears c = tears_put c.args.at c.args.bytes.now (side_memory c.args.self.now) (side_memory c.put.new.self) c.in_ok-put.ensures.entered c.requires
-
-pub returns-clause-extent : goal.returns-clause-extent
-returns-clause-extent c = extent_put c.args.at c.args.bytes.now (side_memory c.args.self.now)
-    (side_memory c.put.new.self) c.in_ok-put.ensures.entered c.requires
-
-pub returns-clause-passes : goal.returns-clause-passes
-returns-clause-passes c = passes_put c.args.at c.args.bytes.now (side_memory c.args.self.now)
-    (side_memory c.put.new.self) c.in_ok-put.ensures.entered c.put.ensures.pulled
-    c.put.ensures.monotone
-
-pub returns-clause-moments : goal.returns-clause-moments
-returns-clause-moments c = within_put c.args.at c.args.bytes.now (side_memory c.args.self.now) (side_memory c.put.new.self) c.in_ok-put.ensures.entered
-
-pub returns-then-fails-clause-torn : goal.returns-then-fails-clause-torn
-returns-then-fails-clause-torn c = λ numbered. pending_failed c.args.at c.args.bytes.now (side_memory c.args.self.now) (side_memory c.fail_write.new.self)
-    c.fail_write.ensures.entered (side_numbered c.args.self.now c.fail_write.new.self numbered)
-
-pub returns-then-fails-clause-unlisted : goal.returns-then-fails-clause-unlisted
-returns-then-fails-clause-unlisted c = grind (arith, common_steps) steps 2000000
+pub returns : goal.returns
+returns c =
+    let at = c.args.at in
+    let bytes = c.args.bytes.now in
+    let is = c.in_ok-put.ensures.entered in
+    let tears = tears_put at bytes _ _ is c.requires in
+    let extent = extent_put at bytes _ _ is c.requires in
+    let passes = passes_put at bytes _ _ is c.put.ensures.pulled c.put.ensures.monotone in
+    search (rules, writes_put at bytes _ _ is, tears, extent, passes, within_put at bytes _ _ is, c.in_ok-put.ensures, c.put.ensures)
