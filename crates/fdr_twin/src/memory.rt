@@ -1,6 +1,6 @@
 //! The twin in memory whose listed calls fail.
 
-ghost use Rattle.std.specs.Prelude.{◌≡◌, ◌⊎◌, ℕ, ◌+◌, ◌<◌, ◌≤◌, ◌↔◌, List, [], Vec, length, drop, min, max, IfOk, IsErr, OnOk, OnErr, IsTrue, None, Contains};
+ghost use Rattle.std.specs.Prelude.{◌≡◌, ◌⊎◌, ℕ, ◌+◌, ◌<◌, ◌≤◌, ◌↔◌, List, [], Vec, length, drop, min, max, IfOk, IsErr, OnOk, OnErr, IsTrue, None, Contains, slice_get, Some};
 ghost use Rattle.std.specs.declared.alloc.Global.{Global};
 ghost use Rattle.fdr_io.specs.Faults.{Rose, next_count};
 ghost use Rattle.fdr_io.specs.Told.{Gives};
@@ -13,6 +13,7 @@ ghost use Rattle.fdr_deck.specs.Memory.{MayStopWithin, memory_state, memory_tell
 ghost use Rattle.fdr_deck.specs.Stops.{stopped_image};
 ghost use Rattle.fdr_deck.specs.MemorySound.{memory_is_sound};
 ghost use Rattle.fdr_deck.specs.declared.calls.Call.TheVariants.{Pass, Write, FailedWrite, Sync, Provide, FailedProvide};
+ghost use Rattle.fdr_twin.specs.declared.calls.TwinEntry.{TwinEntry};
 ghost use Rattle.fdr_twin.specs.declared.calls.SideCall.TheVariants.{Passed, Wrote, FailedToWrite, Synced, Provided, FailedToProvide};
 ghost use Rattle.fdr_twin.specs.declared.side.Side.TheVariants as side;
 ghost use Rattle.fdr_twin.specs.Same.{Turns};
@@ -163,6 +164,14 @@ impl MemTwin {
         ensures { result ≡ length self.now.entries }
     {
         self.entries.len() as u64
+    }
+
+    /// The greatest number that was announced as this call began.
+    pub fn told_at(&self, call: u64) -> u64
+        requires { call < length self.now.entries }
+        ensures { (e : TwinEntry) → slice_get self.now.entries call ≡ Some e → result ≡ greatest_announced e.span.announced }
+    {
+        self.entries[call as usize].span.announced.greatest()
     }
 
     /// One image of each disk that a stop within this call may leave: the pending ranges of both hold what `tear` says.
