@@ -1,11 +1,11 @@
 -- A block that is prepared, committed and announced.
-use Rattle.std.proofs.Common.{◌≡◌, ◌≤◌, ⊎_elim, ℕ, ◌+◌, ◌-◌, List, [], ◌∷◌, ◌++◌, sym, ◌∙◌, ap, subst, arith, Some}
+use Rattle.std.proofs.Common.{◌≡◌, ◌≤◌, ⊎_elim, ℕ, ◌+◌, ◌-◌, List, [], ◌∷◌, ◌++◌, sym, ◌∙◌, ap, subst, arith, Some, rules}
 use Rattle.std.specs.Prelude.{IsTrue}
 use Rattle.fdr_deck.specs.State.{State, Tells}
 use Rattle.fdr_deck.specs.Disk.{IsSettled}
 use Rattle.fdr_deck.specs.Pull.{KeepsInput}
 use Rattle.fdr_deck.specs.Moments.{HasSamePulls, IsNow, Elapses, EachMoment, IsSoundDeck}
-use Rattle.fdr_deck.specs.Calls.{IsDiskWork, Succeeds, Announces, LeavesDisk}
+use Rattle.fdr_deck.specs.Calls.{IsDiskWork, KeepsAnnounced, Succeeds, Announces, LeavesDisk}
 use Rattle.fdr_deck.proofs.Moments.{EachMoment-then, Elapses-then, HasSamePulls-before, KeepsInput-then}
 use Rattle.fdr_deck.proofs.Moments.{KeepsAnnounced-least, KeepsAnnounced-greatest, KeepsAnnounced-then}
 use Rattle.fdr_slot.specs.declared.image.Header.{Header}
@@ -55,26 +55,12 @@ module _ (tells : Tells) (h : Header) (next size : ℕ) (d0 d1 : State) (sound :
     preparing_pulled : EachMoment tells d0 d1 (HasSamePulls d0)
     preparing_pulled stops m since = (quiet.moments stops m since).pulled
 
-    least1 : d0.least ≤ d1.least
-    least1 = KeepsAnnounced-least tells d0 d1 sound quiet.passes.announced
-
-    greatest1 : d1.greatest ≤ d0.greatest
-    greatest1 = KeepsAnnounced-greatest tells d0 d1 sound quiet.passes.announced
-
     -- the block wasn't prepared
     pub RecordsFirstOf-unprepared : (new : List Block) → RecordsFirstOf tells h next new d0 d1
-    RecordsFirstOf-unprepared new = record {
-      time = quiet.passes.time;
-      moments = preparing new;
-      close = preparing_close;
-      pulled = preparing_pulled;
-      input = quiet.passes.input;
-      input_faults = quiet.passes.input_faults;
-      disk_faults = quiet.passes.disk_faults;
-      extent = extent;
-      least = λ le. least1;
-      greatest = λ le. omega (arith, greatest1, le);
-    }
+    RecordsFirstOf-unprepared new =
+        let low = KeepsAnnounced-least tells d0 d1 sound quiet.passes.announced in
+        let high = KeepsAnnounced-greatest tells d0 d1 sound quiet.passes.announced in
+        search (rules, arith, preparing, preparing_close, preparing_pulled, quiet.passes, extent, low, high)
 
     module _ (b : Block) (settled : IsTrue tells.stops → IsSettled d1) (succeeds : Succeeds d0 d1) (keeps : IsTrue tells.bytes
         → IsPreparing h next size d0.held d1.held)
@@ -109,11 +95,8 @@ module _ (tells : Tells) (h : Header) (next size : ℕ) (d0 d1 : State) (sound :
             (λ (added : HasAdded h b d1.held m.image). omega (arith, added.next, (run1 stops).next, number stops, near.announced, low))
             ((q.image (settled stops)).run b (waits (sound.stops_need_bytes stops)))
 
-        least2 : d0.least ≤ d2.least
-        least2 = KeepsAnnounced-least tells d0 d2 sound (KeepsAnnounced-then d0 d1 d2 quiet.passes.announced quiet2.passes.announced)
-
-        greatest2 : d2.greatest ≤ d0.greatest
-        greatest2 = KeepsAnnounced-greatest tells d0 d2 sound (KeepsAnnounced-then d0 d1 d2 quiet.passes.announced quiet2.passes.announced)
+        announced2 : KeepsAnnounced d0 d2
+        announced2 = KeepsAnnounced-then d0 d1 d2 quiet.passes.announced quiet2.passes.announced
 
         -- the block wasn't committed, or it wasn't announced yet
         pub RecordsFirstOf-prepared : RecordsFirstOf tells h next (b ∷ []) d0 d2
@@ -128,8 +111,8 @@ module _ (tells : Tells) (h : Header) (next size : ℕ) (d0 d1 : State) (sound :
           input_faults = quiet2.passes.input_faults ∙ quiet.passes.input_faults;
           disk_faults = omega (arith, quiet.passes.disk_faults, quiet2.passes.disk_faults);
           extent = extent2 ∙ extent;
-          least = λ le. least2;
-          greatest = λ le. omega (arith, greatest2, le);
+          least = λ le. KeepsAnnounced-least tells d0 d2 sound announced2;
+          greatest = λ le. omega (arith, KeepsAnnounced-greatest tells d0 d2 sound announced2, le);
         }
 
         module _ (limits : IsInLimits h) (settled2 : IsTrue tells.stops → IsSettled d2) (succeeds2 : Succeeds d1 d2) (sure2 : IsSureRing tells h (next + 1) d2)

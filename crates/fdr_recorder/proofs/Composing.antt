@@ -1,5 +1,5 @@
 -- Calls that record blocks, one after another.
-use Rattle.std.proofs.Common.{◌≡◌, ℕ, ◌+◌, ◌-◌, List, [], ◌++◌, length, refl, sym, ◌∙◌, ap, subst, arith, length-append, append_assoc}
+use Rattle.std.proofs.Common.{◌≡◌, ℕ, ◌+◌, ◌-◌, List, [], ◌++◌, length, refl, sym, ◌∙◌, ap, subst, arith, length-append, append_assoc, rules}
 use Rattle.std.specs.Prelude.{IsTrue}
 use Rattle.fdr_deck.specs.State.{State, Tells}
 use Rattle.fdr_deck.specs.Moments.{HasSamePulls, IsSoundDeck}
@@ -60,22 +60,7 @@ RecordsFirstOf-here tells h next new d sound ring = record {
 
 pub RecordsFirstOf-more : (tells : Tells) (h : Header) (next : ℕ) (new more : List Block) (old now : State) → RecordsFirstOf tells h next new old now
     → RecordsFirstOf tells h next (new ++ more) old now
-RecordsFirstOf-more tells h next new more old now is = record {
-  time = is.time;
-  moments = λ ready stops m since. let at = is.moments ready stops m since in record {
-    image = keeps_more h old.held m.image (recovered_run h old.held) new more m.announced at.image;
-    least = at.least;
-    pulled = at.pulled;
-  };
-  close = is.close;
-  pulled = is.pulled;
-  input = is.input;
-  input_faults = is.input_faults;
-  disk_faults = is.disk_faults;
-  extent = is.extent;
-  least = is.least;
-  greatest = λ le. let one = is.greatest le in omega (arith, one, length-append new more);
-}
+RecordsFirstOf-more tells h next new more old now is = let long = length-append new more in search (rules, arith, keeps_more, long, is)
 
 module _ (tells : Tells) (h : Header) (next : ℕ) (new more : List Block) (d0 d1 d2 : State) (has : RecordsAllOf tells h next new d0 d1) where
   all_long : next + length new + length more ≡ next + length (new ++ more)

@@ -104,11 +104,6 @@ module _ (tells : Tells) (h : Header) (first : ℕ) (past : RecordingPast) (r : 
         (RecordsFirstOf-then tells h first (so_far past r blocks) (b ∷ []) old mid now was.recorded sound was.records (subst (λ n. RecordsFirstOf tells h n
         (b ∷ []) mid now) step_at more))
 
-    pub RecordsAllOf-step : RecordsAllOf tells h at (b ∷ []) mid now → RecordsAllOf tells h first (so_far past r (blocks + 1)) old now
-    RecordsAllOf-step more = subst (λ (l : List Block). RecordsAllOf tells h first l old now) (sym step_all)
-        (RecordsAllOf-then tells h first (so_far past r blocks) (b ∷ []) old mid now was.recorded (subst (λ n. RecordsAllOf tells h n
-        (b ∷ []) mid now) step_at more))
-
     pub IsFeeding-step : (k' : StreamKept) (at' : ℕ)
         → RepresentsStream k' (with_stream_block
         (record { table = past.table; payload = past.header.payload; records = past.records; begun = begun; blocks = blocks }) r)
@@ -120,7 +115,9 @@ module _ (tells : Tells) (h : Header) (first : ℕ) (past : RecordingPast) (r : 
       since = omega (arith, was.since);
       number = omega (arith, up, was.number, was.since);
       records = RecordsFirstOf-step records;
-      recorded = RecordsAllOf-step recorded;
+      recorded = subst (λ (l : List Block). RecordsAllOf tells h first l old now) (sym step_all)
+          (RecordsAllOf-then tells h first (so_far past r blocks) (b ∷ []) old mid now was.recorded
+          (subst (λ n. RecordsAllOf tells h n (b ∷ []) mid now) step_at recorded));
     }
 
 -- the block that is given next, with the ring's number

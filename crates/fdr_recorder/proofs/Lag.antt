@@ -1,5 +1,5 @@
 -- What is announced lags behind what was pulled, over one record after another.
-use Rattle.std.proofs.Common.{◌≡◌, inl, inr, ⊎_elim, ℕ, ◌+◌, ◌-◌, ◌<◌, ◌≤◌, List, ◌++◌, length, take, ap, sym, ◌∙◌, length-append, arith}
+use Rattle.std.proofs.Common.{◌≡◌, inl, inr, ⊎_elim, ℕ, ◌+◌, ◌-◌, ◌<◌, ◌≤◌, List, ◌++◌, length, take, ap, sym, ◌∙◌, length-append, arith, rules}
 use Rattle.std.proofs.lemmas.Bool.{cases_lt}
 use Rattle.std.proofs.lemmas.List.{take-append-le}
 use Rattle.std.proofs.Math.Seq.{take-append-add}
@@ -30,11 +30,7 @@ IsInTime-more owed start bytes more told told' before taken le is =
 -- more was announced
 pub IsInTime-up : (owed : List BusRecord → ℕ) (start : ℕ) (bytes : List ℕ) (told told' before taken : ℕ) → told ≤ told'
     → IsInTime owed start bytes told before taken → IsInTime owed start bytes told' before taken
-IsInTime-up owed start bytes told told' before taken le is = record {
-  pull = is.pull;
-  within = is.within;
-  announced = omega (arith, le, is.announced);
-}
+IsInTime-up owed start bytes told told' before taken le is = search (rules, arith, le, is)
 
 -- a pull made while the next record was read
 pub IsInTime-pull : (owed : List BusRecord → ℕ) (start at : ℕ) (bytes more : List ℕ) (records : List BusRecord)

@@ -1,13 +1,13 @@
 -- What a recording of all that a source gives promises, from the start of its session on.
 use Rattle.std.proofs.Common.{◌≡◌, ◌≢◌, ◌⊎◌, inl, inr, ⊎_elim, ℕ, ◌+◌, ◌-◌, ◌^◌, ◌<◌, ◌≤◌, max, List, [], ◌++◌, length, take}
-use Rattle.std.proofs.Common.{Option, Some, None, Err, ap, sym, refl, ◌∙◌, subst, arith}
+use Rattle.std.proofs.Common.{Option, Some, None, Err, ap, sym, refl, ◌∙◌, subst, arith, rules}
 use Rattle.std.specs.Prelude.{IsTrue, slice_index, ◌↔◌}
 use Rattle.std.proofs.lemmas.Bool.{cases_lt}
 use Rattle.std.proofs.lemmas.List.{get_or_past, take-take}
 use Rattle.fdr_bus.specs.declared.BusRecord.{BusRecord}
 use Rattle.fdr_deck.specs.State.{Moment, State, Tells}
 use Rattle.fdr_deck.specs.Pull.{KeepsInput}
-use Rattle.fdr_deck.specs.Moments.{EachMoment, HasSamePulls, IsSoundDeck}
+use Rattle.fdr_deck.specs.Moments.{EachMoment, IsSoundDeck}
 use Rattle.fdr_deck.proofs.Composing.{same_fault}
 use Rattle.fdr_deck.proofs.Moments.{EachMoment-then, EachMoment-weaken, Elapses-then, HasSamePulls-before, IsDiskWork-here}
 use Rattle.fdr_slot.specs.Headers.{header_of}
@@ -34,28 +34,16 @@ use Rattle.fdr_recorder.specs.Recording.{RecordsAllOf, IsReady}
 use Rattle.fdr_recorder.specs.Refusing.{RefusesOldVersion, RefusesSession}
 use Rattle.fdr_recorder.specs.Starting.{IsStarted, IsStarting, Starts}
 use Rattle.fdr_recorder.specs.Supplied.{Continues, IsSupplyMoment, RecordsSupply, past_fed}
-use Rattle.fdr_recorder.specs.Supply.{RecordSupply, EndsSupply, PullsNothing, drawn_trace, line_trace, supplied_records}
+use Rattle.fdr_recorder.specs.Supply.{RecordSupply, PullsNothing, drawn_trace, line_trace, supplied_records}
 use Rattle.fdr_recorder.specs.declared.error.SessionFault.{SessionFault}
 use Rattle.fdr_recorder.specs.declared.error.SessionFault.TheVariants as session
 use Rattle.fdr_recorder.specs.declared.session.Session.{Session}
 use Rattle.fdr_recorder.proofs.ReadRecords.{PullsUntilDecided-next}
-use Rattle.fdr_recorder.proofs.SessionEnds.{EndsSupply-cut}
+use Rattle.fdr_recorder.proofs.SessionEnds.{EndsSupply-cut, EndsSupply-kept}
 use Rattle.fdr_recorder.proofs.Starting.{Starts-looked}
 use Rattle.fdr_recorder.proofs.Steps.{keeps_behind, keeps_more, keeps_on}
 
 -- ---- moments by the image at entry
-
--- a session's moment, by the header and the next number of the image at entry
-at_entry : (t : TableRows) (h : Header) (first : ℕ) (entry : State) (blocks new : List Block) (pulled : List ℕ) (m : Moment)
-    → h ≡ header_in entry.held → first ≡ next_in entry.held → blocks ≡ new
-    → IsSupplyMoment t h first entry blocks pulled m → IsSupplyMoment t (header_in entry.held) (next_in entry.held) entry new pulled m
-at_entry t h first entry blocks new pulled m header next same at =
-    let by_header = subst (λ (x : Header). IsSupplyMoment t x first entry blocks pulled m) header at in
-    let by_next = subst (λ (n : ℕ). IsSupplyMoment t (header_in entry.held) n entry blocks pulled m) next by_header in
-    subst (λ (l : List Block). IsSupplyMoment t (header_in entry.held) (next_in entry.held) entry l pulled m) same by_next
-
-take_none : (n : ℕ) (xs : List Block) → n ≡ 0 → take n xs ≡ []
-take_none n xs none = ap (λ m. take m xs) none
 
 -- while the session starts
 pub starting_moment : (t : TableRows) (entry : State) (records : List BusRecord) (m : Moment) → IsStarting (header_in entry.held) entry m
@@ -80,35 +68,12 @@ module _ (tells : Tells) (t : TableRows) (s : Session) (d0 d1 : State) (sound1 :
         let since = sound1.counts_now stops m (sound1.held stops) refl (record { taken = refl; pulled_before = refl }) in
         let first = sound1.falls stops d0.clock d1.clock m starts.time.later (omega arith) since in
         let at = (starts.moments ready stops m first).recording.image in
+        let none : at.count ≡ 0 = omega (arith, at.fits) in
         record {
           kept = at.kept;
           run = subst (λ (l : List Block). IsTail (h.slots - 2) (run_in d0.held ++ l) (recovered_run h d1.held))
-              (take_none at.count [] (omega (arith, at.fits))) at.run;
+              (ap (λ n. take n []) none) at.run;
           next = omega (arith, at.next, at.fits);
-        }
-
-    line_same : (m : Moment) → HasSamePulls d1 m → HasSamePulls d0 m
-    line_same m = HasSamePulls-before d0 d1 m starts.input
-
-    lag_before : (owed_of : List BusRecord → ℕ) (pulled : List ℕ) (m : Moment) → IsLagMoment owed_of d1 pulled m
-        → IsLagMoment owed_of d0 pulled m
-    lag_before owed_of pulled m at = record {
-      pulled = ⊎_elim (λ here. inl (line_same m here))
-          (λ late. inr (subst (λ n. IsInTime owed_of n pulled m.announced m.pulled_before m.taken) starts.input.taken late)) at.pulled;
-    }
-
-    session_moment : (blocks : List Block) (pulled : List ℕ) (m : Moment) → IsTrue tells.stops → IsTrue tells.bytes
-        → MayRecord d0 → IsSupplyMoment t s.ring.header s.ring.next d1 blocks pulled m
-        → IsSupplyMoment t s.ring.header s.ring.next d0 blocks pulled m
-    session_moment blocks pulled m stops bytes ready at =
-        let all : RecoversAll s.ring.header d0.held (recovered_run s.ring.header d0.held) [] d1.held =
-        subst (λ (h : Header). RecoversAll h d0.held (recovered_run h d0.held) [] d1.held) (sym (is.header bytes)) (kept stops ready) in
-        let low = is.least (omega (arith, ready.greatest, is.next bytes, ap (λ (h : Header). next_of h d0.held) (is.header bytes))) in
-        record {
-          keeps = keeps_on s.ring.header d0.held d1.held m.image (recovered_run s.ring.header d0.held) [] blocks m.announced all at.keeps;
-          close = at.close;
-          least = omega (arith, low, at.least);
-          in_time = lag_before (owed_number t s.ring.header s.ring.next) pulled m at.in_time;
         }
 
 -- ---- all promises
@@ -132,36 +97,15 @@ RecordsBlocks-unbegun t tells records d0 d1 all used_up starts not_all not_end =
     let moments : MayRecord d0 → EachMoment tells d0 d1 (IsBlockMoment t d0 records) = λ ready.
     EachMoment-weaken tells d0 d1 (IsStarting (header_in d0.held) d0) (IsBlockMoment t d0 records)
     (λ m at. starting_moment t d0 records m at) (starts.moments ready) in
-    record {
-      time = starts.time;
-      moments = moments;
-      chain = chained t tells d0 d1 records moments;
-      recorded = λ whole. absurd (not_all whole);
-      within = λ whole. absurd (not_all whole);
-      ready = λ whole. absurd (not_all whole);
-      near = λ whole. absurd (not_all whole);
-      seq_end = λ e. absurd (not_end e);
-      beyond = λ e. absurd (not_end e);
-      good = λ either. absurd (⊎_elim not_all not_end either);
-      current = λ either. absurd (⊎_elim not_all not_end either);
-    }
+    let chain = chained t tells d0 d1 records moments in
+    search (rules, starts.time, moments, chain, not_all, not_end)
 
 -- less is promised where less is known to be recorded
 pub RecordsBlocks-weaken : (t : TableRows) (tells : Tells) (records : List BusRecord) (old new : State) (all all' used_up used_up' : Type 0)
     → (all' → all) → (used_up' → used_up) → RecordsBlocks t tells records old new all used_up → RecordsBlocks t tells records old new all' used_up'
-RecordsBlocks-weaken t tells records old new all all' used_up used_up' whole ended is = record {
-  time = is.time;
-  moments = is.moments;
-  chain = is.chain;
-  recorded = λ e. is.recorded (whole e);
-  within = λ e. is.within (whole e);
-  ready = λ e. is.ready (whole e);
-  near = λ e. is.near (whole e);
-  seq_end = λ e. is.seq_end (ended e);
-  beyond = λ e. is.beyond (ended e);
-  good = λ either. is.good (⊎_elim (λ e. inl (whole e)) (λ e. inr (ended e)) either);
-  current = λ either. is.current (⊎_elim (λ e. inl (whole e)) (λ e. inr (ended e)) either);
-}
+RecordsBlocks-weaken t tells records old new all all' used_up used_up' whole ended is =
+    let either : all' ⊎ used_up' → all ⊎ used_up = ⊎_elim (λ e. inl (whole e)) (λ e. inr (ended e)) in
+    search (rules, either, whole, ended, is)
 
 none_of : (from : RecordSupply) → PullsNothing from []
 none_of line_trace = tt
@@ -174,21 +118,6 @@ starting_lag t tells d0 d1 starts ready = EachMoment-weaken tells d0 d1 (IsStart
     (IsLagMoment (owed_number t (header_in d0.held) (next_in d0.held)) d0 [])
     (λ m at. record { pulled = inl at.recording.pulled }) (starts.moments ready)
 
--- so nothing was pulled
-pub RecordsSupply-unbegun : (from : RecordSupply) (t : TableRows) (tells : Tells) (d0 d1 : State) (f : SessionFault)
-    → Starts tells (header_in d0.held) d0 d1 → (f ≡ session.SeqEnd → ⊥) → RefusesSession t tells d0 d1 (Err f)
-    → RefusesOldVersion t tells d0 (Err f) → RecordsSupply from t tells d0 d1 (Err f)
-RecordsSupply-unbegun from t tells d0 d1 f starts not_end image version = record {
-  pulled = [];
-  pulls = none_pulled tells d0 d1 starts.input starts.input_faults;
-  blocks = RecordsBlocks-unbegun t tells (supplied_records from []) d0 d1 (HasRecordedSource (Err f)) (◌≡◌ {A = RecordingEnd} (Err f) (Err session.SeqEnd))
-      starts (λ all. all) (λ e. not_end (same_fault e));
-  image = image;
-  version = version;
-  in_time = λ ready. starting_lag t tells d0 d1 starts ready;
-  ends = EndsSupply-cut from tells d0 d1 [] f (none_of from) (λ line known. starts.input_faults);
-}
-
 -- where the deck wasn't used
 pub nothing_started : (tells : Tells) (d : State) → IsSoundDeck tells d → Starts tells (header_in d.held) d d
 nothing_started tells d sound =
@@ -196,139 +125,88 @@ nothing_started tells d sound =
 
 -- ---- which refusal is answered
 
-words_same : (i w j v : ℕ) → ◌≡◌ {A = RecordingEnd} (Err (session.WordsDiffer i w)) (Err (session.WordsDiffer j v))
-    → session.WordsDiffer i w ≡ session.WordsDiffer j v
-words_same i w j v e = cc
-
-words_are : (i w j v : ℕ) → i ≡ j → w ≡ v → ◌≡◌ {A = RecordingEnd} (Err (session.WordsDiffer i w)) (Err (session.WordsDiffer j v))
-words_are i w j v a b = ap (λ n. Err (session.WordsDiffer n w)) a ∙ ap (λ n. Err (session.WordsDiffer j n)) b
-
-some_same : (a b : ImageFault) → ◌≡◌ {A = Option ImageFault} (Some a) (Some b) → a ≡ b
-some_same a b e = cc
-
 -- an image has one first fault, or none
-pub no_first : (image : List ℕ) (why : ImageFault) → image_fault_of image ≡ None → image_fault_of image ≡ Some why → ⊥
+no_first : (image : List ℕ) (why : ImageFault) → image_fault_of image ≡ None → image_fault_of image ≡ Some why → ⊥
 no_first image why none some = let c : ◌≡◌ {A = Option ImageFault} None (Some why) = sym none ∙ some in cc
 
-same_image : (a b : ImageFault) → ◌≡◌ {A = RecordingEnd} (Err (session.Image a)) (Err (session.Image b)) → a ≡ b
-same_image a b e = cc
+abbrev pub refusal_by : SessionFault → RecordingEnd
+refusal_by f = Err f
 
--- the image's first fault is answered
-image_refused : (t : TableRows) (tells : Tells) (old new : State) (found : ImageFault) → (IsTrue tells.bytes → image_fault_of old.held ≡ Some found)
-    → ((found ≡ fault.Small) ↔ (new.extent < 64)) → RefusesSession t tells old new (Err (session.Image found))
-image_refused t tells old new found first small = record {
-  refused = λ why e bytes. first bytes ∙ ap Some (same_image found why e);
-  small = λ why e. subst (λ (x : ImageFault). (x ≡ fault.Small) ↔ (new.extent < 64)) (same_image found why e) small;
-  small_always = λ past short. inl (ap (λ (x : ImageFault). Err (session.Image x)) (small.1 short));
-  refused_always = λ why past bytes some. inl (ap (λ (x : ImageFault). Err (session.Image x)) (some_same found why (sym (first bytes) ∙ some)));
-  words = λ image table e. absurd (cc);
-  words_always = λ image past bytes other differ. absurd (no_first old.held found other.no_fault (first bytes));
-}
+-- why no session was started
+pub record IsRefused (t : TableRows) (tells : Tells) (d0 d1 : State) (f : SessionFault) : Type 0 where
+  pub not_end : f ≢ session.SeqEnd
+  pub image : IsTrue tells.bytes → (why : ImageFault) → f ≡ session.Image why → image_fault_of d0.held ≡ Some why
+  pub small : (why : ImageFault) → f ≡ session.Image why → (why ≡ fault.Small) ↔ (d1.extent < 64)
+  pub short : refusal_by f ≢ refusal_by session.NoMemory → d1.extent < 64
+      → (refusal_by f ≡ refusal_by (session.Image fault.Small)) ⊎ (refusal_by f ≡ refusal_by session.DiskFault)
+  pub words : (image table : ℕ) → f ≡ session.WordsDiffer image table
+      → (table ≡ t.frame.words) × (image ≢ table) × (IsTrue tells.bytes → IsFor image d0.held)
+  pub old : f ≡ session.OldVersion → IsTrue tells.bytes → IsFor t.frame.words d0.held × ((header_in d0.held).version ≡ 1)
 
--- the disk failed before the image was known
-disk_failed : (t : TableRows) (tells : Tells) (old new : State) → RefusesSession t tells old new (Err session.DiskFault)
-disk_failed t tells old new = record {
-  refused = λ why e. absurd (cc);
-  small = λ why e. absurd (cc);
-  small_always = λ past short. inr refl;
-  refused_always = λ why past bytes first. inr refl;
-  words = λ image table e. absurd (cc);
-  words_always = λ image past bytes other differ. inr refl;
-}
+-- an image that is to be refused is
+refused_always : (t : TableRows) (tells : Tells) (d0 d1 : State) (f : SessionFault) → IsRefused t tells d0 d1 f
+    → refusal_by f ≢ refusal_by session.NoMemory → IsTrue tells.bytes
+    → ((why : ImageFault) → image_fault_of d0.held ≡ Some why
+    → (refusal_by f ≡ refusal_by (session.Image why)) ⊎ (refusal_by f ≡ refusal_by session.DiskFault))
+    × ((image : ℕ) → IsFor image d0.held → image ≢ t.frame.words
+    → (refusal_by f ≡ refusal_by (session.WordsDiffer image t.frame.words)) ⊎ (refusal_by f ≡ refusal_by session.DiskFault))
+    × (IsFor t.frame.words d0.held → (header_in d0.held).version ≡ 1
+    → (refusal_by f ≡ refusal_by session.OldVersion) ⊎ (refusal_by f ≡ refusal_by session.DiskFault))
+refused_always t tells d0 d1 (session.Image w) is past bytes =
+    let here = is.image bytes w refl in (
+      λ why first. let same : ◌≡◌ {A = Option ImageFault} (Some w) (Some why) = sym here ∙ first in inl (cc),
+      λ image other differ. absurd (no_first d0.held w other.no_fault here),
+      λ good first. absurd (no_first d0.held w good.no_fault here),
+    )
+refused_always t tells d0 d1 (session.WordsDiffer i w) is past bytes =
+    let here = is.words i w refl in
+    let held = here.2 bytes in (
+      λ why first. absurd (no_first d0.held why held.no_fault first),
+      λ image other differ. let same : i ≡ image = sym held.words ∙ other.words in let table = here.0 in inl (cc),
+      λ good first. absurd (here.1 (sym held.words ∙ good.words ∙ sym here.0)),
+    )
+refused_always t tells d0 d1 session.OldVersion is past bytes =
+    let held = (is.old refl bytes).0 in (
+      λ why first. absurd (no_first d0.held why held.no_fault first),
+      λ image other differ. absurd (differ (sym other.words ∙ held.words)),
+      λ good first. inl refl,
+    )
+refused_always t tells d0 d1 session.DiskFault is past bytes = (λ why first. inr refl, λ image other differ. inr refl, λ good first. inr refl)
+refused_always t tells d0 d1 session.SeqEnd is past bytes = absurd (is.not_end refl)
+refused_always t tells d0 d1 session.NoMemory is past bytes = absurd (past refl)
 
--- memory ended before it was
-refuses_nothing : (t : TableRows) (tells : Tells) (old new : State) → RefusesSession t tells old new (Err session.NoMemory)
-refuses_nothing t tells old new = record {
-  refused = λ why e. absurd (cc);
-  small = λ why e. absurd (cc);
-  small_always = λ past. absurd (past refl);
-  refused_always = λ why past. absurd (past refl);
-  words = λ image table e. absurd (cc);
-  words_always = λ image past. absurd (past refl);
+-- so nothing was pulled
+pub RecordsSupply-refused : (from : RecordSupply) (t : TableRows) (tells : Tells) (d0 d1 : State) (f : SessionFault)
+    → Starts tells (header_in d0.held) d0 d1 → IsRefused t tells d0 d1 f → RecordsSupply from t tells d0 d1 (Err f)
+RecordsSupply-refused from t tells d0 d1 f starts is = record {
+  pulled = [];
+  pulls = none_pulled tells d0 d1 starts.input starts.input_faults;
+  blocks = RecordsBlocks-unbegun t tells (supplied_records from []) d0 d1 (HasRecordedSource (Err f)) (◌≡◌ {A = RecordingEnd} (Err f) (Err session.SeqEnd))
+      starts (λ all. all) (λ e. is.not_end (same_fault e));
+  image = record {
+    refused = λ why e bytes. is.image bytes why (same_fault e);
+    small = λ why e. is.small why (same_fault e);
+    small_always = is.short;
+    refused_always = λ why past bytes. (refused_always t tells d0 d1 f is past bytes).0 why;
+    words = λ image table e. is.words image table (same_fault e);
+    words_always = λ image past bytes. (refused_always t tells d0 d1 f is past bytes).1 image;
+  };
+  version = record { refused = λ e. is.old (same_fault e); refused_always = λ past bytes. (refused_always t tells d0 d1 f is past bytes).2 };
+  in_time = λ ready. starting_lag t tells d0 d1 starts ready;
+  ends = EndsSupply-cut from tells d0 d1 [] f (none_of from) (λ line known. starts.input_faults);
 }
 
 -- where memory ended before the deck was used
 pub RecordsSupply-nothing : (from : RecordSupply) (t : TableRows) (tells : Tells) (d : State) → IsSoundDeck tells d
     → RecordsSupply from t tells d d (Err session.NoMemory)
-RecordsSupply-nothing from t tells d sound = RecordsSupply-unbegun from t tells d d session.NoMemory (nothing_started tells d sound)
-    (λ e. cc) (refuses_nothing t tells d d) (record { refused = λ e. absurd (cc); refused_always = λ past. absurd (past refl) })
-
--- where the session was refused
-session_image : (t : TableRows) (tells : Tells) (d0 d1 : State) (f : SessionFault) → (f ≡ session.SeqEnd → ⊥)
-    → (IsTrue tells.bytes → (why : ImageFault) → f ≡ session.Image why → image_fault_of d0.held ≡ Some why)
-    → ((why : ImageFault) → f ≡ session.Image why → (why ≡ fault.Small) ↔ (d1.extent < 64))
-    → (d1.extent < 64 → (f ≡ session.Image fault.Small) ⊎ (f ≡ session.DiskFault))
-    → ((image table : ℕ) → f ≡ session.WordsDiffer image table
-    → (table ≡ t.frame.words) × (image ≢ table) × (IsTrue tells.bytes → IsFor image d0.held))
-    → (f ≡ session.OldVersion → IsTrue tells.bytes → IsFor t.frame.words d0.held)
-    → RefusesSession t tells d0 d1 (Err f)
-session_image t tells d0 d1 (session.Image w) not_end image small short words old =
-    image_refused t tells d0 d1 w (λ bytes. image bytes w refl) (small w refl)
-session_image t tells d0 d1 (session.WordsDiffer i w) not_end image small short words old =
-    let here = words i w refl in
-    record {
-      refused = λ why e. absurd (cc);
-      small = λ why e. absurd (cc);
-      small_always = λ past few. absurd (⊎_elim (λ e. cc) (λ e. cc) (short few));
-      refused_always = λ why past bytes first. absurd (no_first d0.held why (here.2 bytes).no_fault first);
-      words = λ j table e. words j table (words_same i w j table e);
-      words_always = λ j past bytes other differ. inl (words_are i w j t.frame.words (sym (here.2 bytes).words ∙ other.words) here.0);
-    }
-session_image t tells d0 d1 session.OldVersion not_end image small short words old = record {
-  refused = λ why e. absurd (cc);
+RecordsSupply-nothing from t tells d sound = RecordsSupply-refused from t tells d d session.NoMemory (nothing_started tells d sound) (record {
+  not_end = λ e. cc;
+  image = λ bytes why e. absurd (cc);
   small = λ why e. absurd (cc);
-  small_always = λ past few. absurd (⊎_elim (λ e. cc) (λ e. cc) (short few));
-  refused_always = λ why past bytes first. absurd (no_first d0.held why (old refl bytes).no_fault first);
-  words = λ j table e. absurd (cc);
-  words_always = λ j past bytes other differ. absurd (differ (sym other.words ∙ (old refl bytes).words));
-}
-session_image t tells d0 d1 session.DiskFault not_end image small short words old = disk_failed t tells d0 d1
-session_image t tells d0 d1 session.SeqEnd not_end image small short words old = absurd (not_end refl)
-session_image t tells d0 d1 session.NoMemory not_end image small short words old = refuses_nothing t tells d0 d1
-
--- an image of version 1 is refused as such
-session_version : (t : TableRows) (tells : Tells) (d0 : State) (f : SessionFault) → (f ≡ session.SeqEnd → ⊥)
-    → (IsTrue tells.bytes → (why : ImageFault) → f ≡ session.Image why → image_fault_of d0.held ≡ Some why)
-    → ((image table : ℕ) → f ≡ session.WordsDiffer image table
-    → (table ≡ t.frame.words) × (image ≢ table) × (IsTrue tells.bytes → IsFor image d0.held))
-    → (f ≡ session.OldVersion → IsTrue tells.bytes → IsFor t.frame.words d0.held × ((header_in d0.held).version ≡ 1))
-    → RefusesOldVersion t tells d0 (Err f)
-session_version t tells d0 (session.Image w) not_end image words old = record {
-  refused = λ e. absurd (cc);
-  refused_always = λ past bytes good first. absurd (no_first d0.held w good.no_fault (image bytes w refl));
-}
-session_version t tells d0 (session.WordsDiffer i w) not_end image words old = record {
-  refused = λ e. absurd (cc);
-  refused_always = λ past bytes good first.
-      let here = words i w refl in
-      absurd (here.1 (sym (here.2 bytes).words ∙ good.words ∙ sym here.0));
-}
-session_version t tells d0 session.OldVersion not_end image words old = record {
-  refused = λ e. old refl;
-  refused_always = λ past bytes good first. inl refl;
-}
-session_version t tells d0 session.DiskFault not_end image words old = record {
-  refused = λ e. absurd (cc);
-  refused_always = λ past bytes good first. inr refl;
-}
-session_version t tells d0 session.SeqEnd not_end image words old = absurd (not_end refl)
-session_version t tells d0 session.NoMemory not_end image words old = record {
-  refused = λ e. absurd (cc);
-  refused_always = λ past. absurd (past refl);
-}
-
-pub RecordsSupply-refused : (from : RecordSupply) (t : TableRows) (tells : Tells) (d0 d1 : State) (f : SessionFault) → Starts tells (header_in d0.held) d0 d1
-    → (f ≡ session.SeqEnd → ⊥)
-    → (IsTrue tells.bytes → (why : ImageFault) → f ≡ session.Image why → image_fault_of d0.held ≡ Some why)
-    → ((why : ImageFault) → f ≡ session.Image why → (why ≡ fault.Small) ↔ (d1.extent < 64))
-    → (d1.extent < 64 → (f ≡ session.Image fault.Small) ⊎ (f ≡ session.DiskFault))
-    → ((image table : ℕ) → f ≡ session.WordsDiffer image table
-    → (table ≡ t.frame.words) × (image ≢ table) × (IsTrue tells.bytes → IsFor image d0.held))
-    → (f ≡ session.OldVersion → IsTrue tells.bytes → IsFor t.frame.words d0.held × ((header_in d0.held).version ≡ 1))
-    → RecordsSupply from t tells d0 d1 (Err f)
-RecordsSupply-refused from t tells d0 d1 f starts not_end image small short words old = RecordsSupply-unbegun from t tells d0 d1 f starts not_end
-    (session_image t tells d0 d1 f not_end image small short words (λ e bytes. (old e bytes).0))
-    (session_version t tells d0 f not_end image words old)
+  short = λ past. absurd (past refl);
+  words = λ image table e. absurd (cc);
+  old = λ e. absurd (cc);
+})
 
 -- an image that is for the table's frames isn't refused
 takes_image : (t : TableRows) (tells : Tells) (old new : State) (end : RecordingEnd)
@@ -354,14 +232,6 @@ takes_version t tells old end begun current = record {
 
 -- ---- from the start of a session on
 
-same_blocks : (t : TableRows) (h h' : Header) (n n' m m' : ℕ) (records : List BusRecord) → h ≡ h' → n ≡ n' → m ≡ m'
-    → all_blocks (record { table = t; header = h; first = n; session = m; records = records })
-    ≡ all_blocks (record { table = t; header = h'; first = n'; session = m'; records = records })
-same_blocks t h h' n n' m m' records header next session_is =
-    ap (λ (x : Header). all_blocks (record { table = t; header = x; first = n; session = m; records = records })) header
-    ∙ ap (λ (k : ℕ). all_blocks (record { table = t; header = h'; first = k; session = m; records = records })) next
-    ∙ ap (λ (k : ℕ). all_blocks (record { table = t; header = h'; first = n'; session = k; records = records })) session_is
-
 -- a gate that is shut is after the header
 shut_front : (h : Header) (n : ℕ) (image : List ℕ) → take 64 (image_with_closed_gate (gate_at h n) image) ≡ take 64 image
 shut_front h n image = ⊎_elim
@@ -374,18 +244,6 @@ shut_front h n image = ⊎_elim
     let none : slice_index image (gate_at h n) ≡ 0 = get_or_past image (gate_at h n) 0 past in
     ap (λ (l : List ℕ). take 64 l) (shut_closed (gate_at h n) image (λ is. absurd (omega (arith, none, is)))))
     (cases_lt (gate_at h n) (length image))
-
-EndsSupply-since : (from : RecordSupply) (tells : Tells) (d0 d1 d2 : State) (pulled : List ℕ) (end : RecordingEnd) → d1.input_faults ≡ d0.input_faults
-    → EndsSupply from tells d1 d2 pulled end → EndsSupply from tells d0 d2 pulled end
-EndsSupply-since line_trace tells d0 d1 d2 pulled end faults ends = record {
-  ended = ends.ended;
-  refused = ends.refused;
-  truncated = ends.truncated;
-  undecided = ends.undecided;
-  no_fault = λ all not. ends.no_fault all not ∙ faults;
-  decided = λ known. ends.decided known ∙ faults;
-}
-EndsSupply-since (drawn_trace t seed frames) tells d0 d1 d2 pulled end faults ends = ends
 
 -- where a session was started
 module _ (from : RecordSupply) (t : TableRows) (tells : Tells) (s : Session) (d0 d1 d2 : State) (end : RecordingEnd) (sound0 : IsSoundDeck tells d0)
@@ -401,8 +259,7 @@ module _ (from : RecordSupply) (t : TableRows) (tells : Tells) (s : Session) (d0
     blocks_are : IsTrue tells.bytes
         → all_blocks (past_fed (past_at_start t s.ring.header s.ring.next s.session) (supplied_records from on.pulled)) ≡ new_blocks t d0.held
         (supplied_records from on.pulled)
-    blocks_are bytes = same_blocks t s.ring.header (header_in d0.held) s.ring.next (next_in d0.held) s.session (session_of (run_in d0.held))
-        (supplied_records from on.pulled) (is.header bytes) (first_is bytes) (session_is bytes)
+    blocks_are bytes = rw (is.header bytes, first_is bytes, session_is bytes) refl
 
     session_moments : MayRecord d0 → IsTrue tells.stops → (m : Moment) → d2.since d1.clock m
         → IsSupplyMoment t (header_in d0.held) (next_in d0.held) d0 (new_blocks t d0.held (supplied_records from on.pulled)) on.pulled m
@@ -410,10 +267,21 @@ module _ (from : RecordSupply) (t : TableRows) (tells : Tells) (s : Session) (d0
         let bytes = sound0.stops_need_bytes stops in
         let few = is.greatest (omega (arith, ready.greatest, first_is bytes)) in
         let at = on.moments few stops m since in
-        let all = all_blocks (past_fed (past_at_start t s.ring.header s.ring.next s.session) (supplied_records from on.pulled)) in
-        at_entry t s.ring.header s.ring.next d0 all (new_blocks t d0.held (supplied_records from on.pulled)) on.pulled m
-        (is.header bytes) (first_is bytes) (blocks_are bytes)
-        (session_moment tells t s d0 d1 sound1 starts is all on.pulled m stops bytes ready at)
+        let blocks = all_blocks (past_fed (past_at_start t s.ring.header s.ring.next s.session) (supplied_records from on.pulled)) in
+        let all : RecoversAll s.ring.header d0.held (recovered_run s.ring.header d0.held) [] d1.held =
+        subst (λ (h : Header). RecoversAll h d0.held (recovered_run h d0.held) [] d1.held) (sym (is.header bytes))
+        (kept tells t s d0 d1 sound1 starts is stops ready) in
+        let low = is.least (omega (arith, ready.greatest, first_is bytes)) in
+        let pulled = ⊎_elim (λ here. inl (HasSamePulls-before d0 d1 m starts.input here))
+        (λ late. inr (subst (λ n. IsInTime (owed_number t s.ring.header s.ring.next) n on.pulled m.announced m.pulled_before m.taken)
+        starts.input.taken late)) at.in_time.pulled in
+        let here : IsSupplyMoment t s.ring.header s.ring.next d0 blocks on.pulled m = record {
+          keeps = keeps_on s.ring.header d0.held d1.held m.image (recovered_run s.ring.header d0.held) [] blocks m.announced all at.keeps;
+          close = at.close;
+          least = omega (arith, low, at.least);
+          in_time = record { pulled = pulled };
+        } in
+        rw (← blocks_are bytes, ← first_is bytes, ← is.header bytes) here
 
     moments : MayRecord d0 → EachMoment tells d0 d2 (IsBlockMoment t d0 (supplied_records from on.pulled))
     moments ready = EachMoment-then tells d0 d1 d2 (IsBlockMoment t d0 (supplied_records from on.pulled)) starts.time on.time
@@ -452,12 +320,6 @@ module _ (from : RecordSupply) (t : TableRows) (tells : Tells) (s : Session) (d0
           settled = λ stops. has.settled stops (is.settled stops);
         }
 
-    all_pulls : PullsUntilDecided tells d0 d2 [] on.pulled
-    all_pulls = PullsUntilDecided-next tells d0 d1 d2 [] on.pulled (none_pulled tells d0 d1 starts.input starts.input_faults) on.pulls
-
-    all_ends : EndsSupply from tells d0 d2 on.pulled end
-    all_ends = EndsSupply-since from tells d0 d1 d2 on.pulled end starts.input_faults on.ends
-
     -- what a further recording rests on
     recorded_all : IsTrue tells.bytes → MayRecord d0
         → RecordsAllOf tells s.ring.header s.ring.next
@@ -482,7 +344,7 @@ module _ (from : RecordSupply) (t : TableRows) (tells : Tells) (s : Session) (d0
         → (IsTrue tells.bytes → IsFor t.frame.words d0.held) → RecordsSupply from t tells d0 d2 end
     RecordsSupply-past_at_start extent begun good = record {
       pulled = on.pulled;
-      pulls = all_pulls;
+      pulls = PullsUntilDecided-next tells d0 d1 d2 [] on.pulled (none_pulled tells d0 d1 starts.input starts.input_faults) on.pulls;
       blocks = record {
         time = Elapses-then tells d0 d1 d2 starts.time on.time;
         moments = moments;
@@ -508,5 +370,5 @@ module _ (from : RecordSupply) (t : TableRows) (tells : Tells) (s : Session) (d0
       image = takes_image t tells d0 d2 end begun (λ short. omega (arith, short, extent, is.fact.ring.extent)) good;
       version = takes_version t tells d0 end begun current;
       in_time = lags;
-      ends = all_ends;
+      ends = EndsSupply-kept from tells d1 d0 d2 d2 on.pulled end on.ends starts.input_faults refl refl;
     }

@@ -1,13 +1,11 @@
 -- How a recording in a session begins and ends.
-use Rattle.std.proofs.Common.{◌≡◌, ◌≢◌, ◌⊎◌, ⊎_elim, inl, inr, Result, Ok, Err, Option, Some, None, true, ℕ, ◌+◌, ◌-◌, ◌^◌, ◌<◌, ◌≤◌}
-use Rattle.std.proofs.Common.{List, [], ◌∷◌, ◌++◌, length, take, ap, sym, refl, ◌∙◌, subst, length-append, arith}
+use Rattle.std.proofs.Common.{◌≡◌, ◌≢◌, ◌⊎◌, ⊎_elim, inl, inr, Result, Ok, Err, true, ℕ, ◌+◌, ◌-◌, ◌^◌, ◌<◌, ◌≤◌}
+use Rattle.std.proofs.Common.{List, [], ◌∷◌, ◌++◌, length, take, ap, sym, refl, ◌∙◌, subst, length-append, arith, rules}
 use Rattle.std.proofs.lemmas.Bool.{cases_lt}
 use Rattle.std.proofs.lemmas.List.{append-nil, take-append-le}
 use Rattle.std.proofs.Math.Seq.{take-append-add}
 use Rattle.fdr_io.specs.Faults.{Rose}
 use Rattle.fdr_bus.specs.declared.BusRecord.{BusRecord}
-use Rattle.fdr_bus.specs.declared.TraceFault.{TraceFault}
-use Rattle.fdr_bus.specs.declared.TraceFault.TheVariants as trace
 use Rattle.fdr_bus.specs.Records.{IsDecided, good_prefix, has_end, is_end}
 use Rattle.fdr_deck.specs.State.{State, Tells}
 use Rattle.fdr_deck.specs.Calls.{LeavesDisk}
@@ -19,7 +17,6 @@ use Rattle.fdr_slot.specs.Limits.{IsInLimits}
 use Rattle.fdr_slot.proofs.HeaderLemmas.{in_limits-is}
 use Rattle.fdr_slot.specs.declared.image.Header.{Header}
 use Rattle.fdr_recover.specs.Blocks.{Block}
-use Rattle.fdr_recover.specs.Images.{recovered_run}
 use Rattle.fdr_ring.specs.Rings.{IsRing, IsSureRing}
 use Rattle.fdr_trace.specs.Pulls.{PullsUntilDecided}
 use Rattle.fdr_trace.specs.Reading.{IsTraceStopped}
@@ -132,80 +129,32 @@ module _ (tells : Tells) (past : RecordingPast) (s : Session) (blocks : List Blo
 
 -- ---- how the source ended
 
--- the end record was fed
-EndsLine-end : (tells : Tells) (d0 d' : State) (bytes : List ℕ) (records : List BusRecord) (r : BusRecord)
-    → good_prefix bytes ≡ records ++ r ∷ [] → is_end r ≡ true → d'.input_faults ≡ d0.input_faults
-    → EndsLine tells d0 d' bytes (Ok source.Ended)
-EndsLine-end tells d0 d' bytes records r good ends quiet = record {
-  ended = λ e. ap has_end good ∙ has_end-push records r ends;
-  refused = λ index why e. absurd (cc);
-  truncated = λ index e. absurd (cc);
-  undecided = λ e. absurd (cc);
-  no_fault = λ all not. quiet;
-  decided = λ known. quiet;
-}
-
--- the refusal of a trace that an end names
-refusal_of : RecordingEnd → Option (ℕ × TraceFault)
-refusal_of (Ok source.Ended) = None
-refusal_of (Ok (source.Stopped (stop.Refused index why))) = Some (index, why)
-refusal_of (Ok (source.Stopped stop.Failed)) = None
-refusal_of (Err f) = None
-
-same_refusal : (index i : ℕ) (why w : TraceFault)
-    → ◌≡◌ {A = RecordingEnd} (Ok (source.Stopped (stop.Refused index why))) (Ok (source.Stopped (stop.Refused i w)))
-    → ◌≡◌ {A = Option (ℕ × TraceFault)} (Some (index, why)) (Some (i, w))
-unfolding refusal_of
-same_refusal index i why w e = ap refusal_of e
-
-same_cause : (index i : ℕ) (why w : TraceFault)
-    → ◌≡◌ {A = RecordingEnd} (Ok (source.Stopped (stop.Refused index why))) (Ok (source.Stopped (stop.Refused i w))) → why ≡ w
-same_cause index i why w e = cc
-
 -- no further record came
 EndsLine-stop : (tells : Tells) (d0 d d' : State) (bytes : List ℕ) (records : List BusRecord) (s : TraceStop)
     → IsTraceStopped tells d d' bytes records s → d.input_faults ≡ d0.input_faults → (s ≢ stop.Failed → d'.input_faults ≡ d.input_faults)
     → EndsLine tells d0 d' bytes (Ok (source.Stopped s))
 EndsLine-stop tells d0 d d' bytes records (stop.Refused index why) stopped before quiet = record {
   ended = λ e. absurd (cc);
-  refused = λ i w e. stopped.first ∙ same_refusal index i why w e;
-  truncated = λ i e told. stopped.end (same_cause index i why trace.Truncated e) told;
+  refused = λ i w e. let number : index ≡ i = cc in let cause : why ≡ w = cc in rw (← number, ← cause) stopped.first;
+  truncated = λ i e told. stopped.end (cc) told;
   undecided = λ e. absurd (cc);
   no_fault = λ all not. quiet (λ e. absurd (cc)) ∙ before;
   decided = λ known. quiet (λ e. absurd (cc)) ∙ before;
 }
-EndsLine-stop tells d0 d d' bytes records stop.Failed stopped before quiet = record {
-  ended = λ e. absurd (cc);
-  refused = λ i w e. absurd (cc);
-  truncated = λ i e. absurd (cc);
-  undecided = λ e. stopped.undecided;
-  no_fault = λ all not. absurd (not refl);
-  decided = λ known. absurd (stopped.undecided known);
-}
+EndsLine-stop tells d0 d d' bytes records stop.Failed stopped before quiet = search (rules, stopped.undecided)
 
 -- the recording was refused or cut short
-EndsLine-cut : (tells : Tells) (d0 d' : State) (bytes : List ℕ) (f : SessionFault) → (IsDecided bytes → d'.input_faults ≡ d0.input_faults)
-    → EndsLine tells d0 d' bytes (Err f)
-EndsLine-cut tells d0 d' bytes f decided = record {
-  ended = λ e. absurd (cc);
-  refused = λ i w e. absurd (cc);
-  truncated = λ i e. absurd (cc);
-  undecided = λ e. absurd (cc);
-  no_fault = λ all. absurd all;
-  decided = decided;
-}
-
--- so of every supply
 pub EndsSupply-cut : (from : RecordSupply) (tells : Tells) (d0 d' : State) (bytes : List ℕ) (f : SessionFault) → PullsNothing from bytes
     → (from ≡ line_trace → IsDecided bytes → d'.input_faults ≡ d0.input_faults) → EndsSupply from tells d0 d' bytes (Err f)
-EndsSupply-cut line_trace tells d0 d' bytes f none decided = EndsLine-cut tells d0 d' bytes f (decided refl)
+EndsSupply-cut line_trace tells d0 d' bytes f none decided = let quiet = decided refl in search (rules, quiet)
 EndsSupply-cut (drawn_trace t seed frames) tells d0 d' bytes f none decided = (none, λ reading. absurd reading)
 
 -- the end record was fed
 EndsSupply-end : (from : RecordSupply) (tells : Tells) (d0 d' : State) (bytes : List ℕ) (records : List BusRecord) (r : BusRecord)
     → supplied_records from bytes ≡ records ++ r ∷ [] → is_end r ≡ true → PullsNothing from bytes → d'.input_faults ≡ d0.input_faults
     → EndsSupply from tells d0 d' bytes (Ok source.Ended)
-EndsSupply-end line_trace tells d0 d' bytes records r good ends none quiet = EndsLine-end tells d0 d' bytes records r good ends quiet
+EndsSupply-end line_trace tells d0 d' bytes records r good ends none quiet =
+    let end = ap has_end good ∙ has_end-push records r ends in search (rules, end, quiet)
 EndsSupply-end (drawn_trace t seed frames) tells d0 d' bytes records r good ends none quiet = (none, λ reading. refl)
 
 -- no further record came
@@ -220,11 +169,6 @@ stop_good : (tells : Tells) (d d' : State) (bytes : List ℕ) (records : List Bu
     → IsTraceStopped tells d d' bytes records s → good_prefix bytes ≡ records
 stop_good tells d d' bytes records (stop.Refused index why) stopped = stopped.good
 stop_good tells d d' bytes records stop.Failed stopped = stopped.good
-
-out_good : (from : RecordSupply) (tells : Tells) (d d' : State) (bytes : List ℕ) (records : List BusRecord) (why : TraceStop)
-    → HasRunOut from tells d d' bytes records why → supplied_records from bytes ≡ records
-out_good from tells d d' bytes records why out =
-    ap (λ (x : RecordSupply). supplied_records x bytes) out.input ∙ stop_good tells d d' bytes records why out.stopped
 
 -- an input that failed was counted
 stop_failed : (tells : Tells) (d0 d d' : State) (bytes : List ℕ) (records : List BusRecord) (s : TraceStop)
@@ -256,7 +200,8 @@ pub HasFedAll-stop : (from : RecordSupply) (tells : Tells) (past : RecordingPast
     → HasFed tells (past_fed past records) bytes d0 d' → HasRunOut from tells d d' bytes records why → d.input_faults ≡ d0.input_faults
     → (why ≢ stop.Failed → d'.input_faults ≡ d.input_faults) → HasFedAll from tells past s d0 d' (source.Stopped why)
 HasFedAll-stop from tells past s d0 d d' bytes records why ring stands has out before quiet =
-    fed_all from tells past s d0 d' bytes records (source.Stopped why) ring stands has (out_good from tells d d' bytes records why out)
+    fed_all from tells past s d0 d' bytes records (source.Stopped why) ring stands has
+    (ap (λ (x : RecordSupply). supplied_records x bytes) out.input ∙ stop_good tells d d' bytes records why out.stopped)
     (EndsSupply-stop from tells d0 d d' bytes records why out before quiet)
 
 pub HasFedAll-end : (from : RecordSupply) (tells : Tells) (past : RecordingPast) (s : Session) (d0 d' : State) (bytes : List ℕ)
@@ -301,12 +246,9 @@ module _ (from : RecordSupply) (tells : Tells) (past : RecordingPast) (d0 d d' :
     moments few =
         let before = recorded_of (past_fed past records) ++ blocks in
         subst (λ (l : List Block). EachMoment tells d0 d' (SupplyMoment past d0 l bytes)) (sym parts)
-        (EachMoment-weaken tells d0 d' (SupplyMoment past d0 before bytes) (SupplyMoment past d0 (before ++ rest) bytes) (λ m at. record {
-          keeps = keeps_more past.header d0.held m.image (recovered_run past.header d0.held) before rest m.announced at.keeps;
-          close = at.close;
-          least = at.least;
-          in_time = at.in_time;
-        }) (block_moments tells (past_fed past records) d0 d d' bytes sound0 is.ring is.settled is.announced has blocks wrote few))
+        (EachMoment-weaken tells d0 d' (SupplyMoment past d0 before bytes) (SupplyMoment past d0 (before ++ rest) bytes)
+        (λ m at. search (rules, keeps_more, at))
+        (block_moments tells (past_fed past records) d0 d d' bytes sound0 is.ring is.settled is.announced has blocks wrote few))
 
     pulls : PullsUntilDecided tells d0 d' [] bytes
     pulls = block_pulls tells (past_fed past records) d0 d d' bytes sound0 is.ring is.settled is.announced has blocks wrote
@@ -402,22 +344,19 @@ cut_not_memory f cut e = rw e at cut
 pub not_short : (n : ℕ) → (n < 64 → ⊥) → 64 ≤ n
 not_short n long = ⊎_elim (λ (short : n < 64). absurd (long short)) (λ (fits : 64 ≤ n). fits) (cases_lt n 64)
 
--- a call that leaves the input leaves how the trace ended
-EndsLine-kept : (tells : Tells) (d0 d d' : State) (bytes : List ℕ) (end : RecordingEnd) → EndsLine tells d0 d bytes end
-    → d'.input ≡ d.input → d'.input_faults ≡ d.input_faults → EndsLine tells d0 d' bytes end
-EndsLine-kept tells d0 d d' bytes end ends line faults = record {
+-- calls that leave the input, before and after, leave how the supply ended
+pub EndsSupply-kept : (from : RecordSupply) (tells : Tells) (d0 e0 d d' : State) (bytes : List ℕ) (end : RecordingEnd)
+    → EndsSupply from tells d0 d bytes end → d0.input_faults ≡ e0.input_faults → d'.input ≡ d.input → d'.input_faults ≡ d.input_faults
+    → EndsSupply from tells e0 d' bytes end
+EndsSupply-kept line_trace tells d0 e0 d d' bytes end ends before line faults = record {
   ended = ends.ended;
   refused = ends.refused;
   truncated = λ index e told. line ∙ ends.truncated index e told;
   undecided = ends.undecided;
-  no_fault = λ all not. faults ∙ ends.no_fault all not;
-  decided = λ known. faults ∙ ends.decided known;
+  no_fault = λ all not. faults ∙ ends.no_fault all not ∙ before;
+  decided = λ known. faults ∙ ends.decided known ∙ before;
 }
-
-EndsSupply-kept : (from : RecordSupply) (tells : Tells) (d0 d d' : State) (bytes : List ℕ) (end : RecordingEnd) → EndsSupply from tells d0 d bytes end
-    → d'.input ≡ d.input → d'.input_faults ≡ d.input_faults → EndsSupply from tells d0 d' bytes end
-EndsSupply-kept line_trace tells d0 d d' bytes end ends line faults = EndsLine-kept tells d0 d d' bytes end ends line faults
-EndsSupply-kept (drawn_trace t seed frames) tells d0 d d' bytes end ends line faults = ends
+EndsSupply-kept (drawn_trace t seed frames) tells d0 e0 d d' bytes end ends before line faults = ends
 
 -- where the trace on the input is decided, no fault of it was met
 decided_quiet : (from : RecordSupply) (tells : Tells) (d0 d d' : State) (bytes : List ℕ) (end : RecordingEnd) → EndsSupply from tells d0 d bytes end
@@ -448,7 +387,7 @@ module _ (from : RecordSupply) (tells : Tells) (past : RecordingPast) (d0 d d' :
             Continues-all from tells past d0 d d' whole.pulled (supplied_records from whole.pulled) (rest_of p) [] sound0 s0 is whole.has
             (RecordsFirstOf-at tells p s (rest_of p) d d' whole.stands wrote) (parts ∙ sym (append-nil (recorded_of p ++ rest_of p))) end refl
             (omega (arith, bound, next, next_at p s whole.stands)) (RecordsAllOf-at tells p s (rest_of p) d d' whole.stands recorded)
-            (EndsSupply-kept from tells d0 d d' whole.pulled (Ok end) whole.ends wrote.input.input wrote.input_faults)
+            (EndsSupply-kept from tells d0 d0 d d' whole.pulled (Ok end) whole.ends refl wrote.input.input wrote.input_faults)
 
         -- its number is announced
         pub told_closed : (n : ℕ) → n ≡ s.ring.next + length (rest_of (fed from past whole.pulled))

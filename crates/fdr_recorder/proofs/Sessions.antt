@@ -1,6 +1,6 @@
 -- A trace that is recorded in a session, record by record.
 use Rattle.std.proofs.Common.{◌≡◌, inl, inr, ⊎_elim, ℕ, ◌+◌, ◌-◌, ◌<◌, ◌≤◌, List, [], ◌∷◌, ◌++◌, length, ap, sym, ◌∙◌, subst}
-use Rattle.std.proofs.Common.{length-append, arith}
+use Rattle.std.proofs.Common.{length-append, arith, rules}
 use Rattle.std.specs.Prelude.{IsTrue}
 use Rattle.std.proofs.lemmas.Bool.{cases_lt}
 use Rattle.std.proofs.lemmas.List.{take_all}
@@ -158,12 +158,7 @@ module _ (tells : Tells) (past : RecordingPast) (d0 d d' : State) (bytes : List 
 
         before_pull : d0.greatest ≤ past.first → EachMoment tells d0 d (SupplyMoment past d0 (recorded_of past) (bytes ++ more))
         before_pull few = EachMoment-weaken tells d0 d (SupplyMoment past d0 (recorded_of past) bytes)
-            (SupplyMoment past d0 (recorded_of past) (bytes ++ more)) (λ m at. record {
-              keeps = at.keeps;
-              close = at.close;
-              least = at.least;
-              in_time = lag_more (owed_number_by past) d0 bytes more m at.in_time;
-            }) (has.moments few)
+            (SupplyMoment past d0 (recorded_of past) (bytes ++ more)) (λ m at. search (rules, lag_more, at)) (has.moments few)
 
         pub HasFed-pull : HasFed tells past (bytes ++ more) d0 d'
         HasFed-pull = record {
@@ -199,12 +194,7 @@ module _ (tells : Tells) (past : RecordingPast) (d0 d d' : State) (bytes : List 
 
       before_block : d0.greatest ≤ past.first → EachMoment tells d0 d (SupplyMoment past d0 (recorded_of past ++ blocks) bytes)
       before_block few = EachMoment-weaken tells d0 d (SupplyMoment past d0 (recorded_of past) bytes)
-          (SupplyMoment past d0 (recorded_of past ++ blocks) bytes) (λ m at. record {
-            keeps = keeps_more past.header d0.held m.image (recovered_run past.header d0.held) (recorded_of past) blocks m.announced at.keeps;
-            close = at.close;
-            least = at.least;
-            in_time = at.in_time;
-          }) (has.moments few)
+          (SupplyMoment past d0 (recorded_of past ++ blocks) bytes) (λ m at. search (rules, keeps_more, at)) (has.moments few)
 
       pub block_moments : d0.greatest ≤ past.first → EachMoment tells d0 d' (SupplyMoment past d0 (recorded_of past ++ blocks) bytes)
       block_moments few = EachMoment-then tells d0 d d' (SupplyMoment past d0 (recorded_of past ++ blocks) bytes) has.time records.time

@@ -1,5 +1,5 @@
 -- The moments while a session starts.
-use Rattle.std.proofs.Common.{◌≡◌, ℕ, ◌+◌, ◌-◌, ◌%◌, ◌^◌, ◌≤◌, List, [], ◌∷◌, inl, inr, refl, sym, ◌∙◌, ap, subst, arith, None}
+use Rattle.std.proofs.Common.{◌≡◌, ℕ, ◌+◌, ◌-◌, ◌%◌, ◌^◌, ◌≤◌, List, [], ◌∷◌, inl, inr, refl, sym, ◌∙◌, ap, subst, arith, None, rules}
 use Rattle.std.specs.Prelude.{IsTrue}
 use Rattle.fdr_deck.specs.State.{State, Tells, Moment}
 use Rattle.fdr_deck.specs.Disk.{IsSettled, KeepsDisk}
@@ -10,7 +10,7 @@ use Rattle.fdr_deck.proofs.Moments.{EachMoment-then, Elapses-then, HasSamePulls-
 use Rattle.fdr_slot.specs.declared.image.Header.{Header}
 use Rattle.fdr_recover.specs.Blocks.{Block}
 use Rattle.fdr_recover.specs.Stretches.{last_session}
-use Rattle.fdr_recover.specs.Images.{recovered_run, next_of}
+use Rattle.fdr_recover.specs.Images.{next_of}
 use Rattle.fdr_ring.specs.Runs.{KeepsRun}
 use Rattle.fdr_ring.specs.Rings.{IsAttaching, OfSettled}
 use Rattle.fdr_table.specs.Rows.{TableRows}
@@ -23,17 +23,10 @@ use Rattle.fdr_recorder.specs.Starting.{AnnouncesLast, IsStarting, Starts}
 use Rattle.fdr_recorder.proofs.Steps.{keeps_run, tail_same}
 
 weaker : (h : Header) (old new : List ℕ) → KeepsRun h (h.slots - 1) old new → KeepsRun h (h.slots - 2) old new
-weaker h old new keeps = record {
-  kept = keeps.kept;
-  run = record { lost = keeps.run.lost; within = keeps.run.within; tail = keeps.run.tail; enough = omega (arith, keeps.run.enough) };
-  next = keeps.next;
-}
+weaker h old new keeps = search (rules, arith, keeps)
 
 attaching_same : (h : Header) (image : List ℕ) → IsAttaching h image image
-attaching_same h image = record {
-  run = record { kept = record { size = refl; header = refl }; run = tail_same (h.slots - 1) (recovered_run h image); next = refl };
-  bytes = record { torn = record { size = refl; front = refl; behind = refl }; same = λ closed. refl };
-}
+attaching_same h image = search (rules, tail_same)
 
 -- an image that may be left while the session starts
 starting : (h : Header) (entry : State) (m : Moment) → IsAttaching h entry.held m.image → m.announced ≤ next_of h entry.held → entry.least ≤ m.announced
@@ -58,14 +51,7 @@ module _ (tells : Tells) (h : Header) (d0 d1 : State) (sound : IsSoundDeck tells
 
   -- only the header was read
   pub Starts-looked : Starts tells h d0 d1
-  Starts-looked = record {
-    time = quiet.passes.time;
-    moments = looking;
-    pulled = looking_pulled;
-    input = quiet.passes.input;
-    input_faults = quiet.passes.input_faults;
-    disk_faults = quiet.passes.disk_faults;
-  }
+  Starts-looked = search (rules, looking, looking_pulled, quiet.passes)
 
   module _ (disk : KeepsDisk d0 d1) (fresh : HasOneAnnounced d1) (d2 : State) (passes2 : Passes tells d1 d2) (quiet2 : IsTrue tells.stops
       → IsDiskWork tells (OfSettled d1 (IsAttaching h)) d1 d2) where

@@ -1,6 +1,6 @@
 -- What a supply gives, record by record, and how it ends.
 use Rattle.std.proofs.Common.{◌≡◌, ⊎_elim, ℕ, ◌+◌, ◌*◌, ◌<◌, ◌≤◌, true, false, List, [], ◌∷◌, ◌++◌, length, take, drop, map}
-use Rattle.std.proofs.Common.{Some, Result, Ok, Err, ap, sym, refl, ◌∙◌, subst, get_or, arith}
+use Rattle.std.proofs.Common.{Some, Result, Ok, Err, ap, sym, refl, ◌∙◌, subst, get_or, arith, rules}
 use Rattle.std.specs.Prelude.{◌||◌, IfOk, MatchResult}
 use Rattle.std.specs.List.{slice_get}
 use Rattle.std.proofs.lemmas.Bool.{cases_lt}
@@ -45,15 +45,10 @@ may_feed past from Gave bytes records r next = record { order = next.order; in_t
 
 next_of_line : (k k' : TraceKept) (bytes more : List ℕ) (records : List BusRecord) (r : BusRecord) → RepresentsTrace k bytes records
     → IsNextRecord k' (bytes ++ more) records r → GivesNext line_trace (HasRead line_trace k') (bytes ++ more) records r
-next_of_line k k' bytes more records r reads next = record {
-  order = next.order;
-  in_time = next.in_time;
-  unended = ap has_end reads.good ∙ reads.unended.unended;
-  begins = good_with_next k' (bytes ++ more) records r next;
-  more = next.more;
-  ends = next.ends;
-  unpulled = tt;
-}
+next_of_line k k' bytes more records r reads next =
+    let unended = ap has_end reads.good ∙ reads.unended.unended in
+    let begins = good_with_next k' (bytes ++ more) records r next in
+    search (rules, unended, begins, next)
 
 -- the next of any trace that is read
 pub line_gives : (from : RecordSupply) (k k' : TraceKept) (tells : Tells) (d d' : State) (bytes : List ℕ) (records : List BusRecord)

@@ -1,4 +1,4 @@
-use Rattle.std.proofs.Common.{◌≡◌, ◌∙◌, ap, refl, Err, arith}
+use Rattle.std.proofs.Common.{◌≡◌, ◌∙◌, ap, refl, Err, arith, rules}
 use Rattle.fdr_deck.proofs.Composing.{refusal}
 use Rattle.fdr_deck.specs.Pull.{KeepsInput}
 use Rattle.fdr_recorder.specs.Supplied.{past_fed}
@@ -42,19 +42,7 @@ close-requires-clause-fact g c =
 
 -- the source's records were not all recorded
 pub returns-in_err-fed : goal.returns-in_err-fed
-returns-in_err-fed g c = rw (refusal _ _ c.from_residual.ensures.1) (record {
-  closed = λ from past gave is. tt;
-  ended = c.in_err-fed.ensures.ended;
-  next = tt;
-  later = tt;
-  only = c.in_err-fed.ensures.only;
-  input_fault = tt;
-  disk_fault = c.in_err-fed.ensures.disk_fault;
-  no_disk_fault = tt;
-  no_fault_if_cut = c.in_err-fed.ensures.no_fault_if_cut;
-  unpulled = c.in_err-fed.ensures.unpulled;
-  extent = c.in_err-fed.ensures.extent;
-})
+returns-in_err-fed g c = rw (refusal _ _ c.from_residual.ensures.1) (search (rules, c.in_err-fed.ensures))
 
 -- the session was closed
 pub returns-in-Ok : goal.returns-in-Ok

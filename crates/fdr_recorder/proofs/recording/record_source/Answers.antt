@@ -25,10 +25,14 @@ returns-in-Err g c =
     let starts = c.start.ensures.starts in
     record {
       recorded = λ from gives. tt;
-      ended = λ from gives. RecordsSupply-refused from c.args.sound.now _ _ _ c.in-Err.fault starts
-          (λ ends. e.numbers (ap Err ends)) (λ bytes why is. e.image bytes why (ap Err is)) (λ why is. e.small why (ap Err is))
-          (λ short. ⊎_elim (λ is. inl (same_fault is)) (λ is. inr (same_fault is)) (e.small_always short))
-          (λ image table is. e.words image table (ap Err is)) (λ is. e.old_version (ap Err is));
+      ended = λ from gives. RecordsSupply-refused from c.args.sound.now _ _ _ c.in-Err.fault starts (record {
+        not_end = λ ends. e.numbers (ap Err ends);
+        image = λ bytes why is. e.image bytes why (ap Err is);
+        small = λ why is. e.small why (ap Err is);
+        short = λ past short. ⊎_elim (λ is. inl (ap Err (same_fault is))) (λ is. inr (ap Err (same_fault is))) (e.small_always short);
+        words = λ image table is. e.words image table (ap Err is);
+        old = λ is. e.old_version (ap Err is);
+      });
       blocks = tt;
       memory = λ is. not_short _ (λ short. ⊎_elim (λ x. let y = sym is ∙ same_fault x in cc) (λ x. let y = sym is ∙ same_fault x in cc)
           (e.small_always short));
