@@ -247,7 +247,7 @@ def runs_of_pair() -> Iterator[Run]:
         ("the_first_sync_fails", both, Fault("fsync", 1, EIO)),
         ("a_later_sync_fails", both, Fault("fdatasync", 8, EIO)),
         ("a_write_fails", both, Fault("pwrite64", 6, EIO)),
-        ("the_lead_fails", ["record", "t1.csv", "large.img", "few.img"], Fault("pread64", 26, EIO)),
+        ("the_lead_fails", ["record", "t1.csv", "large.img", "few.img"], Fault("pread64", 25, EIO)),
     ):
         yield Run(f"pair_{name}", words, TRACE, fault, "fdrpair")
 
