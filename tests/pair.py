@@ -182,9 +182,10 @@ def acts_of(pair: Pair, coming: list[tuple[int, bytes]], missing: int, chance: r
 
 def lines_differ(pair: Pair, ended: Recorded, loss: Loss | None) -> str | None:
     """What is wrong with the lines that aren't acknowledgements, if anything."""
-    wanted = [f"fault {pair.name_of(loss.image)}", f"fdrpair: {loss.image.path}: became shorter"] if loss else []
-    # The cause is told at the end, which a run that is killed doesn't reach.
-    if ended.others not in ([], wanted, wanted[: 1 if ended.status else 2]):
+    wanted = [f"fdrpair: {loss.image.path}: became shorter", f"fault {pair.name_of(loss.image)}"] if loss else []
+    # A run that is killed may have said a part of it.
+    said, all_of_it = "\n".join(ended.others), "\n".join(wanted)
+    if said not in ("", all_of_it) and not (ended.status and all_of_it.startswith(said)):
         return f"said {ended.others} and not {wanted}"
     if loss and not ended.others and ended.told and loss.has_to_be_said(ended.told):
         return f"the {pair.name_of(loss.image)} image was lost, and that wasn't said"
