@@ -14,18 +14,13 @@ unfolding without_first
 nothing_left None buffer n given none = tt
 nothing_left (Some left) buffer n given none = ap (drop n) (given.end.0 none) ∙ drop-nil n
 
--- nothing was taken
-pub TakesAtMost-none : (n : ℕ) (told : Option (List ℕ)) → TakesAtMost n told told
-TakesAtMost-none n told = ([], omega arith, sym (preceded_by-nil told))
-
 -- one read
 pub TakesAtMost-read : (most : ℕ) (told : Option (List ℕ)) (buffer : List ℕ) (n : ℕ) → n ≤ most
     → IfSome told (λ left. Gives left buffer n) → TakesAtMost most told (without_first n told)
 TakesAtMost-read most told buffer n few given =
     (take n buffer, omega (arith, length-take n buffer), sym (preceded_by-nil told) ∙ preceded_by-gives [] buffer told n given)
 
-preceded_by-preceded_by : (first second : List ℕ) (told : Option (List ℕ))
-    → preceded_by first (preceded_by second told) ≡ preceded_by (first ++ second) told
+preceded_by-preceded_by : (first second : List ℕ) (told : Option (List ℕ)) → preceded_by first (preceded_by second told) ≡ preceded_by (first ++ second) told
 unfolding preceded_by
 preceded_by-preceded_by first second None = refl
 preceded_by-preceded_by first second (Some left) = ap Some (sym (append_assoc first second left))
@@ -33,8 +28,5 @@ preceded_by-preceded_by first second (Some left) = ap Some (sym (append_assoc fi
 -- these bytes, and then a few more
 pub TakesAtMost-then : (m n : ℕ) (old mid new : Option (List ℕ)) (first : List ℕ) → length first ≤ m → old ≡ preceded_by first mid
     → TakesAtMost n mid new → TakesAtMost (m + n) old new
-TakesAtMost-then m n old mid new first few whole rest = (
-  first ++ rest.0,
-  omega (arith, length-append first rest.0, rest.1),
-  whole ∙ ap (preceded_by first) rest.2 ∙ preceded_by-preceded_by first rest.0 new,
-)
+TakesAtMost-then m n old mid new first few whole rest =
+    (first ++ rest.0, omega (arith, length-append first rest.0, rest.1), whole ∙ ap (preceded_by first) rest.2 ∙ preceded_by-preceded_by first rest.0 new)
