@@ -47,7 +47,7 @@ fn each_call_fails_once_where_one_is_behind(rt: HostRuntime) {
 fn a_run_after_a_stop_brings_both_together(rt: HostRuntime) {
     let images = one_behind(&rt);
     for stop in stops(&rt, images.with(&NO_WORDS), Tear::Half).iter() {
-        let again = ended(&rt, stop.with(&NO_WORDS));
+        let again = ended(&rt, stop.images.with(&NO_WORDS));
         assert!(rt;
             again.outcome == PairOutcome::Done
                 && again.told == 6

@@ -195,8 +195,15 @@ impl Images {
     }
 }
 
-/// The images that stops of a recording leave, one within each of its calls.
-pub fn stops(rt: &(impl Abort + AllocGlobal), given: Given<'_>, tear: Tear) -> Vec<Images> {
+/// What a stop within a call leaves: both images, and the greatest number that was announced before that call.
+#[derive(Drop)]
+pub struct Stop {
+    pub images: Images,
+    pub told: u64,
+}
+
+/// What stops of a recording leave, one within each of its calls.
+pub fn stops(rt: &(impl Abort + AllocGlobal), given: Given<'_>, tear: Tear) -> Vec<Stop> {
     let (_, twin) = recorded_on(rt, given);
     let mut stops = Vec::new(rt.alloc());
     for call in 0..twin.calls() {
@@ -207,10 +214,13 @@ pub fn stops(rt: &(impl Abort + AllocGlobal), given: Given<'_>, tear: Tear) -> V
     stops
 }
 
-fn stopped(rt: &(impl Abort + AllocGlobal), twin: &MemTwin, call: u64, tear: Tear) -> Images {
+fn stopped(rt: &(impl Abort + AllocGlobal), twin: &MemTwin, call: u64, tear: Tear) -> Stop {
     assert!(rt; call < twin.calls());
     let (first, second) = twin.stop(rt.alloc(), call, tear).expect(rt, "a stop");
-    Images { first, second }
+    Stop {
+        images: Images { first, second },
+        told: twin.told_at(call),
+    }
 }
 
 /// The first side's image after one frame is recorded on two such images.

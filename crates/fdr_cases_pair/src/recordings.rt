@@ -31,7 +31,7 @@ fn records_on_both(rt: HostRuntime) {
 fn first_write_on_second(rt: &(impl Abort + AllocGlobal), given: Given<'_>) -> u64 {
     let mut write = None;
     for (call, stop) in stops(rt, given, Tear::Fill(0xee)).iter().enumerate() {
-        if write.is_none() && stop.second.as_slice() != given.second {
+        if write.is_none() && stop.images.second.as_slice() != given.second {
             write = Some(call as u64);
         }
     }
@@ -126,22 +126,26 @@ fn next_of_each(rt: &(impl Abort + AllocGlobal), images: &Images, blocks: &[u8])
     )
 }
 
-// Whether the stops of a recording leave on each side ever more of these blocks, and at most one more on the first.
+// Whether the stops of a recording leave on each side ever more of these blocks: all that were announced by then, at most one more
+// on the first, and at most this many more on the second.
 fn leaves_more(
     rt: &(impl Abort + AllocGlobal),
     given: Given<'_>,
     blocks: &[u8],
     tear: Tear,
+    ahead: u64,
 ) -> bool {
     let mut holds = true;
     let mut before = (0, 0);
     for stop in stops(rt, given, tear).iter() {
-        let now = next_of_each(rt, stop, blocks);
+        let now = next_of_each(rt, &stop.images, blocks);
         holds = holds
             && before.0 <= now.0
             && before.1 <= now.1
+            && stop.told <= now.1
             && now.1 <= now.0
-            && now.0.saturating_sub(now.1) <= 1;
+            && now.0.saturating_sub(stop.told) <= 1
+            && now.1.saturating_sub(stop.told) <= ahead;
         before = now;
     }
     holds
@@ -152,8 +156,10 @@ fn a_stop_leaves_the_announced_blocks_on_each(rt: HostRuntime) {
     let empty = empty_image();
     let given = Given::of(&empty, &empty, &ONE_FRAME);
     let whole = recovered(&rt, &record(&rt, given).first);
-    for tear in [Tear::Old, Tear::New, Tear::Half, Tear::Fill(0x5a)] {
-        assert!(rt; leaves_more(&rt, given, &whole, tear));
+    // Where what is pending is lost, the second has the announced blocks alone.
+    assert!(rt; leaves_more(&rt, given, &whole, Tear::Old, 0));
+    for tear in [Tear::New, Tear::Half, Tear::Fill(0x5a)] {
+        assert!(rt; leaves_more(&rt, given, &whole, tear, 1));
     }
 }
 
