@@ -6,10 +6,11 @@ import random
 import numpy as np
 import pytest
 
+from conftest import Write
 from flight_recorder import listing
 from flight_recorder.faults import Fault
 from flight_recorder.listing import Kind, Names, Piece, is_line, piece_of, read_listing
-from flight_recorder.streams import Input
+from flight_recorder.streams import Input, opened_again
 
 GOOD = [
     b"row,0,1,10,ALT,5",
@@ -113,6 +114,20 @@ def test_many_pieces_are_one_listing() -> None:
     assert [(names.names[name], value) for name, value in rows] == [
         (f"N{at % 300}", float(f"{at}.{at % 10}")) for at in range(150_000)
     ]
+
+
+@pytest.mark.parametrize("most, is_kept", [(listing.MOST_KEPT, True), (1 << 20, False)])
+def test_pieces_that_are_kept_are_those_of_the_listing(write: Write, monkeypatch: pytest.MonkeyPatch, most: int, is_kept: bool) -> None:
+    monkeypatch.setattr(listing, "MOST_KEPT", most)
+    text = b"".join(b"row,%d,%d,7,N%d,%d\n" % (at // 4 % 4096, at % 4 + 1, at % 3, at) for at in range(100_000))
+    path, names = write("listing", text), Names()
+    with opened_again(str(path)) as source:
+        kept = listing.Kept(source, names)
+        first, second = list(kept), list(kept)
+        assert len(first) > 2 and [one is other for one, other in zip(first, second)] == [is_kept] * len(first)
+        for pieces in (first, second):
+            values = [value for piece in pieces for value in piece.value.tolist()]
+            assert (values, pieces[-1].first_line + len(pieces[-1])) == ([float(at) for at in range(100_000)], 100_001)
 
 
 def test_faults_name_lines_of_the_whole_listing() -> None:

@@ -124,10 +124,11 @@ def look(frames: int, seed: int, program: str | None) -> Seen:
         file.flush()
         table = parameters.read_table(file.name)
     section = outline.sections_of(streams.Input(io.BytesIO(listing), None), table)[0]
-    of_lines = outline.outline_of(section, np.frombuffer(bits, dtype=np.uint8), table, samples.Samples(table))
+    line = np.frombuffer(bits, dtype=np.uint8)
+    of_lines = outline.outline_of(section, line, table, samples.Samples(table))
     place_of = dict(zip(of_lines.line.tolist(), of_lines.frames.bit.tolist()))
     out = io.StringIO()
-    parts.Reader(table, 2).write(section, bits, out)
+    parts.Reader(table, 2).write(section, line, out)
     marks = [line for line in out.getvalue().splitlines() if line.startswith("doubtful")]
     false = [line for line in marks if place_of[int(line.split(",")[4])] in begins]
     whole = sum(place in begins for place in of_lines.frames.bit.tolist())

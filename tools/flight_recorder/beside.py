@@ -2,6 +2,7 @@
 
 import re
 from dataclasses import dataclass, field, replace
+from functools import cached_property
 from typing import Iterator
 
 import numpy as np
@@ -99,9 +100,11 @@ class Beside:
         self.begins = np.array([one.line for one in self.doubts], dtype=np.int64)
         self.ends = np.array([one.line + one.rows for one in self.doubts], dtype=np.int64)
         self.number_of: dict[int, int] = {}  # of each gap, by its line in the listing
-        samples = Samples(self.table)
-        self.frame = samples.frame
-        self.in_last_frame = samples.in_last_frame
+
+    @cached_property
+    def in_last_frame(self) -> dict[tuple[int, int], str]:
+        """The subframes of the frame of its last part in which each sample has parts."""
+        return Samples(self.table).in_last_frame
 
     def follow(self, piece: Piece) -> None:
         """Numbers the gaps of a piece of the listing, as it is read first."""

@@ -17,12 +17,13 @@ AT_ONCE = 1 << 20
 
 def sum_of(path: str, progress: Progress | None = None) -> str:
     """The SHA-256 of a file, which is opened for reading alone."""
-    digest = hashlib.sha256()
     with open(path, "rb") as file:
+        if progress is None:
+            return hashlib.file_digest(file, "sha256").hexdigest()
+        digest = hashlib.sha256()
         while data := file.read(AT_ONCE):
             digest.update(data)
-            if progress:
-                progress.add(len(data))
+            progress.add(len(data))
     return digest.hexdigest()
 
 

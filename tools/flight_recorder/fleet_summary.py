@@ -7,7 +7,8 @@ import io
 import pathlib
 import re
 from collections import Counter
-from dataclasses import dataclass, field, replace
+from dataclasses import dataclass, replace
+from functools import cached_property
 from typing import Any, Iterator
 
 import numpy as np
@@ -21,14 +22,14 @@ from .evidence import sum_of
 from .faults import Fault
 from .fleet_job import EXCEEDANCES
 from .joining import time_text
-from .listing import Exceedance
+from .listing import NEWLINE, PIECE, Exceedance, Kept, Kind
 from .parameters import Table
 from .slots import Header, Slots
-from .streams import Again, opened, opened_again
+from .streams import Again, opened
 
 SYNCS_OF_PARTS = 2  # that have to stand, as of `flight parts`
-LINE = re.compile(rb"(session|run|gap),\d+,(\d+)\n")
-NEWLINE, ROW = ord("\n"), ord("o")  # a row's second letter, which no other line has
+LINE = re.compile(rb"(run|gap),\d+,(\d+)\n")
+ROW = ord("o")  # a row's second letter, which no other line has
 
 
 @dataclass
@@ -52,25 +53,41 @@ class Summary:
 
 
 @dataclass
-class Lines:
-    """The lines of a listing that are no rows: how many of each kind, and the sum of their last fields."""
+class Salvaged:
+    """What `fdr salvage` lists: how many runs of blocks, their blocks, the bits of all gaps, and the byte after the line of the last
+    run, from which on it is what `fdr list` writes: that is proved."""
 
-    count: "Counter[str]" = field(default_factory=Counter)
-    sum: "Counter[str]" = field(default_factory=Counter)
+    runs: int = 0
+    blocks: int = 0
+    gap_bits: int = 0
+    last: int = 0
 
 
-def lines_of(listing: pathlib.Path) -> Lines:
-    """Counts the lines of a listing that are no rows."""
-    lines, text = Lines(), listing.read_bytes()
-    signs = np.frombuffer(text, dtype=np.uint8)
-    begins = np.insert(np.flatnonzero(signs == NEWLINE) + 1, 0, 0)[:-1]
-    for begin in begins[signs[begins + 1] != ROW].tolist():
-        found = LINE.match(text, begin)
-        if found:
-            kind = found.group(1).decode()
-            lines.count[kind] += 1
-            lines.sum[kind] += int(found.group(2))
-    return lines
+def salvaged_in(path: pathlib.Path) -> Salvaged:
+    """Goes through the lines that are no rows of what `fdr salvage` wrote."""
+    found = Salvaged()
+    for end, line in _others(path):
+        one = LINE.fullmatch(line)
+        if one and one.group(1) == b"run":
+            found.runs, found.blocks, found.last = found.runs + 1, found.blocks + int(one.group(2)), end
+        elif one:
+            found.gap_bits += int(one.group(2))
+    return found
+
+
+def _others(path: pathlib.Path) -> Iterator[tuple[int, bytes]]:
+    """The lines of a listing that are no rows, each with the byte after it."""
+    at, left = 0, b""
+    with open(path, "rb", buffering=0) as file:
+        while data := file.read(PIECE):
+            text = left + data
+            signs = np.frombuffer(text, dtype=np.uint8)
+            ends = np.flatnonzero(signs == NEWLINE) + 1
+            begins = np.insert(ends, 0, 0)[:-1]
+            for line in np.flatnonzero(signs[begins + 1] != ROW).tolist():
+                yield at + int(ends[line]), text[begins[line] : ends[line]]
+            whole = int(ends[-1]) if len(ends) else 0
+            at, left = at + whole, text[whole:]
 
 
 def sizes_of_runs(path: str, header: Header) -> list[int]:
@@ -111,11 +128,23 @@ class Sampled:
 
 
 @dataclass
+class Counts:
+    """The lines of a listing that are no rows, and those of what stands in its gaps."""
+
+    sessions: int
+    gaps: int
+    gap_bits: int
+    parts: int
+    doubtful: int
+
+
+@dataclass
 class Listed:
-    """A listing of a flight, and what it is read by."""
+    """An open listing of a flight, and what it is read by."""
 
     flight: str
     path: pathlib.Path
+    source: Again
     table_path: str
     table: Table
     starts: Dates | None
@@ -123,35 +152,43 @@ class Listed:
     describe: str | None
     chosen: Chosen | None = None
 
-    def parts(self) -> "Counter[str]":
+    @cached_property
+    def how(self) -> reading.Reading:
+        """How it is read, each time that it is gone through."""
+        how = reading.reading_of(self.table_path, None, self.describe or "")
+        how.cuts = False  # an exceedance is placed by all samples
+        how.kept = Kept(self.source, how.names)
+        return how
+
+    def counts(self) -> Counts:
         """Writes what `flight parts` does beside the listing, and counts its lines by their kinds."""
         reader = parts.Reader(self.table, SYNCS_OF_PARTS)
-        with opened(self.flight) as dump, opened(str(self.path)) as lines:
-            sections = outline.sections_of(lines, self.table)
-            with open(self._parts_path(), "w", encoding="ascii", newline="") as out:
-                for section, data in zip(sections, parts.lines_of_bits(dump.read(), sections)):
-                    reader.write(section, data, out)
+        sections = outline.sections_in(self.how.kept or (), self.how.names, self.table)
+        with opened(self.flight) as dump, open(self._parts_path(), "w", encoding="ascii", newline="") as out:
+            for section, bits in zip(sections, parts.lines_of_bits(dump.read(), sections)):
+                reader.write(section, bits, out)
         with open(self._parts_path(), encoding="ascii") as written:
-            return Counter(line.partition(",")[0] for line in written)
+            count = Counter(line.partition(",")[0] for line in written)
+        sessions = sum(head.kind is Kind.SESSION for section in sections for head in section.heads)
+        gaps = [gap.second for section in sections for gap in section.gaps]
+        return Counts(sessions, len(gaps), sum(gaps), count["part"], count["doubtful"])
 
     def _parts_path(self) -> pathlib.Path:
         return self.path.with_name("parts.txt")
 
     def sampled(self, values: pathlib.Path | None) -> Sampled:
         """Goes through the listing beside its parts, and writes its values as HDF5 where that is wanted."""
-        how = reading.reading_of(self.table_path, None, self.describe or "")
-        how.cuts = False  # an exceedance is placed by all samples
+        how = self.how
         with opened(str(self._parts_path())) as source:
             how.beside = beside.read_beside(source, self.table)
-        with opened_again(str(self.path)) as again:
-            seconds = self._choose(self.chosen, how, again) if self.chosen else None
-            for one in how.passes(again):
-                sampled = self._pass(how, one, values)
+        seconds = self._choose(self.chosen, how) if self.chosen else None
+        for one in how.passes(self.source):
+            sampled = self._pass(how, one, values)
         return replace(sampled, seconds=seconds)
 
-    def _choose(self, chosen: Chosen, how: reading.Reading, source: Again) -> int:
+    def _choose(self, chosen: Chosen, how: reading.Reading) -> int:
         """Has one flight read alone, and answers its seconds but for what is missing."""
-        found = flights.find(how, source, chosen.wanted)
+        found = flights.find(how, self.source, chosen.wanted)
         try:
             how.window = found.window(chosen.number)
         except Fault as fault:
@@ -211,8 +248,8 @@ class Seen:
             return
         self.times.add(timed)
         self.rows += len(timed.time)
-        self.recordings.update(np.unique(timed.recording).tolist())
-        order = np.argsort(timed.piece.name, kind="stable")
+        self.recordings.update(timed.recording[np.diff(timed.recording, prepend=-1) != 0].tolist())
+        order = np.argsort(timed.piece.name.astype(np.uint16), kind="stable")  # of two bytes each they are sorted by counting
         names, values = timed.piece.name[order], timed.piece.value[order]
         begins = np.flatnonzero(np.diff(names, prepend=-1))
         own = names[begins]

@@ -25,14 +25,15 @@ from .clock import WORD_BITS
 from .evidence import sum_of
 from .faults import Fault
 from .fleet_job import DONE, EVENTS, FAILED, MISSING, REFUSED, Job, Row
-from .fleet_summary import Chosen, Listed, NoFlight, Summary, lines_of, sizes_of_runs
+from .fleet_summary import Chosen, Listed, NoFlight, Salvaged, Summary, salvaged_in, sizes_of_runs
 from .listing import SUBFRAMES, Exceedance, read_exceedances
 from .parameters import read_table
 from .running import Ran, Runner, program_at
 from .slots import header_of, likely_shape
-from .streams import opened, whole_file
+from .streams import opened, opened_again, whole_file
 
 MOST_LISTED = 268_435_456  # bytes, of fdr listbits
+AT_ONCE = 1 << 20
 MOST_SAID = 2000  # characters of standard error that are kept
 VALUES_ONE_BY_ONE = threading.Lock()  # a process may read several flights at once, and the library of HDF5 may not
 
@@ -85,6 +86,8 @@ class Flight:
 
     def __init__(self, job: Job, runner: Runner) -> None:
         self.job, self.runner, self.folder = job, runner, runner.folder
+        self.listing = self.folder / "listing.txt"
+        self.size = 0  # bytes that are listed
         self.table = read_table(job.table)
         self.header = header_of(job.file)
         seems = os.path.getsize(job.file) == 0 or self.header is not None and self.header.has_most_letters
@@ -117,36 +120,32 @@ class Flight:
         return None if self.runner.run(words, output, given).status else self.folder / output
 
     def _image(self) -> Summary | None:
-        """Lists an image, and counts its runs, its sessions and its gaps."""
+        """Lists an image, and counts its runs."""
         job = self.job
         written = self._run(["salvage", job.table, job.file], "salvage.txt")
         if written is None or self.header is None:
             return None
-        salvaged = lines_of(written)
-        written.unlink()  # of a whole image it is as long as the listing
-        listing = self._run(["list", job.table, job.file], "listing.txt")
-        if listing is None:
-            return None
+        salvaged = salvaged_in(written)
+        self._keep_last(written, salvaged)
         sizes = sizes_of_runs(job.file, self.header)
-        frames = self._frames(sum(sizes), salvaged.sum["gap"])
-        summary = Summary(salvaged.count["run"], salvaged.sum["run"], frames)
-        return self._counted(summary, listing, sizes[-1] if sizes else 0)
+        self.size = sizes[-1] if sizes else 0
+        return Summary(salvaged.runs, salvaged.blocks, self._frames(sum(sizes), salvaged.gap_bits))
+
+    def _keep_last(self, written: pathlib.Path, salvaged: Salvaged) -> None:
+        """Keeps what `fdr list` writes of all that `fdr salvage` wrote."""
+        with open(written, "rb") as source, open(self.listing, "wb") as out:
+            source.seek(salvaged.last)
+            shutil.copyfileobj(source, out, AT_ONCE)
+        written.unlink()
 
     def _bits(self) -> Summary | None:
-        """Lists bits, and counts their gaps."""
-        listing = self._run(["listbits", self.job.table], "listing.txt", self.job.file)
-        return self._counted(Summary(), listing, min(os.path.getsize(self.job.file), MOST_LISTED)) if listing else None
+        """Lists bits."""
+        self.size = min(os.path.getsize(self.job.file), MOST_LISTED)
+        return Summary() if self._run(["listbits", self.job.table], self.listing.name, self.job.file) else None
 
     def _frames(self, size: int, gap_bits: int) -> int:
         """How many frames so many bytes have: what is in no gap of their listing is in a frame."""
         return (8 * size - gap_bits) // (SUBFRAMES * self.table.words * WORD_BITS)
-
-    def _counted(self, summary: Summary, listing: pathlib.Path, size: int) -> Summary:
-        lines = lines_of(listing)
-        summary.sessions, summary.gaps, summary.gap_bits = lines.count["session"], lines.count["gap"], lines.sum["gap"]
-        summary.frames = self._frames(size, lines.sum["gap"])
-        summary.duration = SUBFRAMES * summary.frames
-        return summary
 
     def _exceedances(self) -> list[Exceedance]:
         """The lines of `fdr exceed`, of bits by an image of them."""
@@ -168,10 +167,14 @@ class Flight:
         job = self.job
         starts = dates.dates_of([job.start] if job.start else [])
         chosen = Chosen(flights.wanted_of(job.when, job.at_least, job.apart), job.flight) if job.when and job.flight else None
-        listed = Listed(job.file, self.folder / "listing.txt", job.table, self.table, starts, exceedances, job.describe, chosen)
-        counts = listed.parts()
-        summary.parts, summary.doubtful = counts["part"], counts["doubtful"]
         with contextlib.ExitStack() as stack:
+            source = stack.enter_context(opened_again(str(self.listing)))
+            listed = Listed(job.file, self.listing, source, job.table, self.table, starts, exceedances, job.describe, chosen)
+            counts = listed.counts()
+            summary.sessions, summary.gaps, summary.gap_bits = counts.sessions, counts.gaps, counts.gap_bits
+            summary.parts, summary.doubtful = counts.parts, counts.doubtful
+            summary.frames = self._frames(self.size, counts.gap_bits)
+            summary.duration = SUBFRAMES * summary.frames
             values = None
             if job.values:
                 stack.enter_context(VALUES_ONE_BY_ONE)
@@ -185,7 +188,7 @@ class Flight:
 
     def _events(self, rules: str) -> list[list[str]]:
         """The rows of `flight events`: events, and how long each rule was watched."""
-        words = ["events", str(self.folder / "listing.txt"), "--table", self.job.table, "--rules", rules]
+        words = ["events", str(self.listing), "--table", self.job.table, "--rules", rules]
         words += [*self._described(), *self._options(when="when", at_least="for", apart="apart")]
         head, *rows = csv.reader(io.StringIO(run_tool(words)))
         return [[dict(zip(head, row)).get(name, "") for name in EVENTS] for row in rows]

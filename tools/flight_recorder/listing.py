@@ -15,9 +15,10 @@ import numpy as np
 
 from .arrays import Array
 from .faults import Fault
-from .streams import Input
+from .streams import Again, Input
 
 PIECE = 1 << 19
+MOST_KEPT = 1 << 26  # bytes of a listing whose pieces are kept
 PADDING = 64  # zero bytes after a piece, so that no field reaches over the end of its memory
 LONGEST_LINE = 4096
 COMMAS = 5  # in a row
@@ -216,6 +217,27 @@ def read_listing(source: Input, names: Names, begin: Place = Place(), end: int |
             yield piece
     if left:
         raise Fault(f"listing line {line}: it has no line feed at its end, so the listing was cut there")
+
+
+class Kept:
+    """The pieces of a listing that is gone through several times: of one that isn't long they are kept from the first time on."""
+
+    def __init__(self, source: Again, names: Names) -> None:
+        self.source, self.names = source, names
+        self.pieces: list[Piece] | None = None
+
+    def __iter__(self) -> Iterator[Piece]:
+        if self.pieces is not None:
+            yield from self.pieces
+            return
+        held: list[Piece] = []
+        is_short = True
+        for piece in read_listing(self.source.input(), self.names):
+            is_short = piece.at + len(piece.text) <= MOST_KEPT
+            held = held if is_short else []
+            held.append(piece)
+            yield piece
+        self.pieces = held if is_short else None
 
 
 def piece_of(data: bytes, first_line: int, names: Names) -> Piece:

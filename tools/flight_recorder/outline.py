@@ -1,7 +1,7 @@
 """The outline of a listing: its sessions and runs, its gaps, and how many rows are between them; and the frames that are there."""
 
 from dataclasses import dataclass, field
-from typing import Iterator
+from typing import Iterable, Iterator
 
 import numpy as np
 
@@ -11,7 +11,7 @@ from .clock import WORD_BITS
 from .doubts import Frames
 from .faults import Fault
 from .frames import SYNCS
-from .listing import SUBFRAMES, Kind, Mark, Names, read_listing
+from .listing import SUBFRAMES, Kind, Mark, Names, Piece, read_listing
 from .parameters import SUPERFRAME, Table
 from .raw import words_at
 from .samples import Samples
@@ -39,9 +39,14 @@ class Section:
 def sections_of(source: Input, table: Table) -> list[Section]:
     """The sections of a listing, which has rows at places of the table alone."""
     names = Names(list(table.parameters))
+    return sections_in(read_listing(source, names), names, table)
+
+
+def sections_in(pieces: Iterable[Piece], names: Names, table: Table) -> list[Section]:
+    """The sections of a listing by its pieces, whose names begin with those of the table."""
     starts = places.starts_of(table)
     sections = [Section([], 1)]
-    for piece in read_listing(source, names):
+    for piece in pieces:
         starts.check(piece, names)
         done = 0
         for mark in piece.marks:

@@ -51,12 +51,12 @@ class Found:
     subframes: list[Subframe]
 
 
-def lines_of_bits(data: bytes, sections: list[Section]) -> list[bytes]:
+def lines_of_bits(data: bytes, sections: list[Section]) -> list[Array]:
     """The bytes of each section's line of bits, out of a dump or an image."""
     if not is_image(data):
         if len(sections) > 1:
             raise Fault(f"listing line {sections[1].heads[0].line}: of several sessions or runs the image itself is needed")
-        return [data]
+        return [np.frombuffer(data, dtype=np.uint8)]
     runs = runs_of(data)
     is_salvaged = any(head.kind is Kind.RUN for section in sections for head in section.heads)
     lines = [line for run in (runs if is_salvaged else runs[-1:]) for line in run]
@@ -64,7 +64,7 @@ def lines_of_bits(data: bytes, sections: list[Section]) -> list[bytes]:
         raise Fault(f"the image has {len(lines)} sessions, and the listing has others: a listing of another image?")
     for line, section in zip(lines, sections):
         _check_heads(line, section)
-    return [line.data for line in lines] or [b""]
+    return [line.data for line in lines] or [np.zeros(0, dtype=np.uint8)]
 
 
 def _check_heads(line: Line, section: Section) -> None:
@@ -84,9 +84,8 @@ class Reader:
         self.samples = Samples(table)
         self.width = table.words * WORD_BITS
 
-    def write(self, section: Section, data: bytes, out: TextIO) -> None:
-        """Writes the lines of a section."""
-        bits = np.frombuffer(data, dtype=np.uint8)
+    def write(self, section: Section, bits: Array, out: TextIO) -> None:
+        """Writes the lines of a section, which is listed of these bytes."""
         outline = outline_of(section, bits, self.table, self.samples)
         frames = outline.frames
         gaps = [self._gap(bits, frames, mark, frame) for mark, frame in outline.gaps]

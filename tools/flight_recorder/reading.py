@@ -16,7 +16,7 @@ from .deriving import Deriving, Request
 from .description import SCALED, Description, RecordedClock
 from .faults import Fault
 from .listed_doubts import beside_of
-from .listing import Kind, Mark, Names, Piece, Place, empty_piece, read_listing
+from .listing import Kept, Kind, Mark, Names, Piece, Place, empty_piece, read_listing
 from .noting import Noting
 from .parameters import Table, read_table
 from .streams import Again
@@ -63,6 +63,7 @@ class Reading:
     notes: list[Between] = field(default_factory=list)  # to be put between rows
     utc: time_of_day.Utc | None = None
     missing: dict[int, float] = field(default_factory=dict)  # seconds by the clock, where they were guessed
+    kept: Kept | None = None  # the pieces of the listing, by the same names
 
     @property
     def requests(self) -> list[Request]:
@@ -178,7 +179,7 @@ class Pass:
         """The pieces; where the memory is known to wrap those after that place first."""
         names = self.reading.names
         if self.given_wrap is None or self.reading.as_recorded:
-            yield from read_listing(self.source.input(), names)
+            yield from self.reading.kept or read_listing(self.source.input(), names)
             return
         place = self.given_wrap.place
         yield empty_piece(Mark(Kind.WRAP, 0))
