@@ -1,47 +1,69 @@
--- The accepted frames up to one of the events, and the entries of that event.
-use Rattle.std.proofs.Common.{◌≡◌, ℕ, ◌+◌, ◌-◌, ◌*◌, ◌<◌, ◌≤◌, List, [], ◌∷◌, ◌++◌, length, map, true, false, sym}
-use Rattle.std.proofs.Common.{ap, refl, ◌∙◌, subst, arith, append-nil, append_assoc, length-append}
-use Rattle.std.specs.Prelude.{All, AllPairs, Option, filter, nat_le, IsSome}
-use Rattle.std.specs.List.{filter_map, flat_map}
-use Rattle.std.proofs.lemmas.Bool.{le-leb, lt-leb}
-use Rattle.std.proofs.lemmas.List.{length-map}
+-- The accepted frames up to one of the events, and the entries of that event, also behind frames of other bits.
+use Rattle.std.proofs.Common.{◌≡◌, ℕ, ◌+◌, ◌-◌, ◌*◌, ◌<◌, ◌≤◌, List, [], ◌∷◌, ◌++◌, length, map, true, false, sym, ap, refl, ◌∙◌, subst, arith, append-nil}
+use Rattle.std.proofs.Common.{append_assoc, length-append, zero, suc}
+use Rattle.std.specs.Prelude.{All, AllPairs, IsSome}
+use Rattle.std.specs.List.{filter_map}
+use Rattle.std.proofs.lemmas.Bool.{and_left}
+use Rattle.std.proofs.lemmas.List.{length-map, get_or_append_left, get_or_at, get_or-append-add}
 use Rattle.std.proofs.lemmas.List.Concat.{flat_map-append}
-use Rattle.std.proofs.lemmas.List.Elements.{All-nil, All-cons, All-head, All-tail, All-weaker, filter-append, filter_map-append}
-use Rattle.fdr_lists.proofs.Filters.{filter_none}
-use Rattle.fdr_lists.proofs.Pairs.{AllPairs-head, AllPairs-tail}
+use Rattle.std.proofs.lemmas.List.Elements.{All-weaker, filter_map-append}
 use Rattle.fdr_frame.specs.WordCount.{IsWordCount}
 use Rattle.fdr_frame.proofs.WordCounts.{word_count_bounds}
 use Rattle.fdr_sync.specs.Accepted.{accepted_frames}
 use Rattle.fdr_sync.specs.Events.{Event, Frame, Gap, events_of, frame_of_event}
 use Rattle.fdr_sync.proofs.AcceptedLemmas.{accepted_apart}
 use Rattle.fdr_sync.proofs.EventLemmas.{frames_of_events}
-use Rattle.fdr_table.specs.Rows.{TableRows}
-use Rattle.fdr_recon.specs.declared.Row.{Row}
-use Rattle.fdr_recon.specs.Past.{BeginsApart, is_linked_at}
-use Rattle.fdr_recon.specs.Rows.{ReadFrame, rows_looked_at, rows_of_frame}
+use Rattle.fdr_table.specs.Rows.{TableRows, FrameRow}
+use Rattle.fdr_recon.specs.Past.{BeginsApart, is_linked_at, read_frame}
+use Rattle.fdr_recon.specs.Rows.{ReadFrame, rows_looked_at, rows_of_frame, frame_at, are_linked}
 use Rattle.fdr_recon.proofs.ApartFrames.{last_rows-apart}
 use Rattle.fdr_readout.specs.Listing.{accepted_to, frame_read, rows_at, is_frame_linked}
-use Rattle.fdr_readout.specs.Entries.{Entry, FrameEntry, RowEntry, event_entries, row_entries, last_frame_entries, entries_at, entries_of}
+use Rattle.fdr_readout.specs.Entries.{Entry, FrameEntry, RowEntry, event_entries, last_frame_entries, entries_at, entries_of}
 use Rattle.fdr_readout.specs.Reading.{entries_in}
-use Rattle.fdr_readout.proofs.SoFarLemmas.{filter_all}
+use Rattle.fdr_readout.proofs.SoFarLemmas.{filter_to}
 use Rattle.fdr_readout.proofs.EntryLemmas.{flat_map_row_entries}
-use Rattle.fdr_readout.proofs.LinkedFrames.{last_linked-apart}
 
-All_behind : {X : Type 0} (P : X → Type 0) (xs ys : List X) → All P (xs ++ ys) → All P ys
-All_behind P [] ys all = all
-All_behind P (x ∷ xs) ys all = All_behind P xs ys (All-tail P x (xs ++ ys) all)
+frame_at-behind : (earlier frames : List ReadFrame) (i : ℕ) → frame_at (earlier ++ frames) (length earlier + i) ≡ frame_at frames i
+frame_at-behind earlier frames i = get_or-append-add earlier frames i (read_frame false [])
+
+first_apart : (frames : List ReadFrame) → BeginsApart frames → (frame_at frames 0).adjacent ≡ false
+first_apart [] apart = refl
+first_apart (r ∷ frames) apart = apart
+
+-- a frame that isn't adjacent to the one before it isn't linked to it
+apart_unlinked : (f : FrameRow) (frames : List ReadFrame) (i : ℕ) → (frame_at frames i).adjacent ≡ false → is_linked_at f frames i ≡ false
+unfolding are_linked
+apart_unlinked f frames zero apart = refl
+apart_unlinked f frames (suc i) apart = and_left _ _ apart
+
+-- each frame is linked as it is without those before
+linked-apart : (f : FrameRow) (earlier frames : List ReadFrame) (i : ℕ) → BeginsApart frames
+    → is_linked_at f (earlier ++ frames) (length earlier + i) ≡ is_linked_at f frames i
+linked-apart f earlier frames zero apart =
+    apart_unlinked f (earlier ++ frames) (length earlier + 0)
+    (ap (λ (r : ReadFrame). r.adjacent) (frame_at-behind earlier frames 0) ∙ first_apart frames apart)
+linked-apart f earlier frames (suc i) apart =
+    let later : length earlier + suc i ≡ suc (length earlier + i) = omega arith in
+    let next = rw later at (frame_at-behind earlier frames (suc i)) in
+    ap (is_linked_at f (earlier ++ frames)) later ∙ rw (frame_at-behind earlier frames i, next) refl
+
+-- so is the last
+pub last_linked-apart : (f : FrameRow) (earlier frames : List ReadFrame) → BeginsApart frames → 0 < length frames
+    → is_linked_at f (earlier ++ frames) (length (earlier ++ frames) - 1) ≡ is_linked_at f frames (length frames - 1)
+last_linked-apart f earlier frames apart some =
+    let last : length (earlier ++ frames) - 1 ≡ length earlier + (length frames - 1) = omega (arith, length-append earlier frames) in
+    ap (is_linked_at f (earlier ++ frames)) last ∙ linked-apart f earlier frames (length frames - 1) apart
 
 -- the elements before one of a list, and those after it
 pairs_before : {X : Type 0} (R : X → X → Type 0) (xs : List X) (a : X) (ys : List X) → AllPairs R (xs ++ a ∷ ys) → All (λ x. R x a) xs
-pairs_before R [] a ys pairs = All-nil (λ x. R x a)
-pairs_before R (x ∷ xs) a ys pairs =
-    All-cons (λ x. R x a) x xs
-    (All-head (R x) a ys (All_behind (R x) xs (a ∷ ys) (AllPairs-head R x (xs ++ a ∷ ys) pairs)))
-    (pairs_before R xs a ys (AllPairs-tail R x (xs ++ a ∷ ys) pairs))
+pairs_before R xs a ys pairs k d within =
+    rw (get_or_append_left xs (a ∷ ys) d k within, get_or_at xs a ys d (length xs) refl) at
+    (pairs k (length xs) d within (omega (arith, length-append xs (a ∷ ys))))
 
 pairs_behind : {X : Type 0} (R : X → X → Type 0) (xs : List X) (a : X) (ys : List X) → AllPairs R (xs ++ a ∷ ys) → All (R a) ys
-pairs_behind R [] a ys pairs = AllPairs-head R a ys pairs
-pairs_behind R (x ∷ xs) a ys pairs = pairs_behind R xs a ys (AllPairs-tail R x (xs ++ a ∷ ys) pairs)
+pairs_behind R xs a ys pairs k d within =
+    rw (get_or_at xs a ys d (length xs) refl, get_or-append-add xs (a ∷ ys) (suc k) d) at
+    (pairs (length xs) (length xs + suc k) d (omega arith) (omega (arith, length-append xs (a ∷ ys))))
 
 -- the accepted frames up to one that is an event
 accepted_to_event : (b : List ℕ) (w a : ℕ) (taken after : List Event) → 0 < w → events_of b w ≡ taken ++ Frame a ∷ after
@@ -50,34 +72,20 @@ accepted_to_event b w a taken after some is =
     let xs = filter_map frame_of_event taken in
     let ys = filter_map frame_of_event after in
     let R : ℕ → ℕ → Type 0 = λ earlier later. earlier + 48 * w ≤ later in
-    let up_to = λ (x : ℕ). nat_le x a in
     let all : accepted_frames b w ≡ xs ++ a ∷ ys =
     sym (frames_of_events b w) ∙ ap (filter_map frame_of_event) is ∙ filter_map-append frame_of_event taken (Frame a ∷ after) in
     let apart = subst (AllPairs R) all (accepted_apart b w 0) in
-    let early : All (λ x. nat_le x a ≡ true) xs =
-    All-weaker (λ x. R x a) (λ x. nat_le x a ≡ true) (λ x before. le-leb x a (omega arith)) xs (pairs_before R xs a ys apart) in
-    let late : All (λ x. nat_le x a ≡ false) ys =
-    All-weaker (R a) (λ x. nat_le x a ≡ false) (λ x behind. lt-leb x a (omega arith)) ys (pairs_behind R xs a ys apart) in
-    let here : All (λ x. nat_le x a ≡ true) (a ∷ []) =
-    All-cons (λ x. nat_le x a ≡ true) a [] (le-leb a a (omega arith)) (All-nil (λ x. nat_le x a ≡ true)) in
-    ap (filter up_to) all ∙ filter-append up_to xs (a ∷ ys)
-    ∙ ap (λ (front : List ℕ). front ++ filter up_to (a ∷ ys)) (filter_all up_to xs early)
-    ∙ ap (λ (rest : List ℕ). xs ++ rest) (filter-append up_to (a ∷ []) ys
-    ∙ ap (λ (front : List ℕ). front ++ filter up_to ys) (filter_all up_to (a ∷ []) here)
-    ∙ ap (λ (rest : List ℕ). a ∷ rest) (filter_none up_to ys late))
+    rw all (filter_to xs ys a (All-weaker (λ x. R x a) (λ x. x ≤ a) (λ x before. omega arith) xs (pairs_before R xs a ys apart))
+    (All-weaker (R a) (λ y. a < y) (λ y behind. omega arith) ys (pairs_behind R xs a ys apart)))
 
 -- a frame that was just read is one at least
 pub some_read : (b : List ℕ) (w : ℕ) (taken : List Event) (e : Event) (read : List ReadFrame) → IsSome (frame_of_event e)
     → read ≡ map (frame_read b w) (filter_map frame_of_event (taken ++ e ∷ [])) → 0 < length read
 some_read b w taken (Gap a n) read frame is = absurd (let wrong : false ≡ true = frame in cc)
 some_read b w taken (Frame a) read frame is =
-    let split = filter_map-append frame_of_event taken (Frame a ∷ []) in
-    omega (
-      arith,
-      ap length (is ∙ ap (map (frame_read b w)) split),
-      length-map (filter_map frame_of_event taken ++ a ∷ []) (frame_read b w),
-      length-append (filter_map frame_of_event taken) (a ∷ []),
-    )
+    let xs = filter_map frame_of_event taken in
+    let all = ap length (is ∙ ap (map (frame_read b w)) (filter_map-append frame_of_event taken (Frame a ∷ []))) in
+    omega (arith, all, length-map (xs ++ a ∷ []) (frame_read b w), length-append xs (a ∷ []))
 
 -- the entries of frame i of these
 abbrev frame_entries_of : TableRows → List ReadFrame → ℕ → List Entry
@@ -107,10 +115,10 @@ pub entries_apart : (t : TableRows) (earlier read : List ReadFrame) (e : Event) 
 unfolding last_frame_entries
 entries_apart t earlier read (Gap a n) count apart some = refl
 entries_apart t earlier read (Frame a) count apart some =
-    ap (λ linked. FrameEntry linked ∷ flat_map row_entries (rows_looked_at t (earlier ++ read) (length (earlier ++ read) - 1)))
-    (last_linked-apart t.frame earlier read apart (some refl))
-    ∙ ap (λ (rows : List (Option Row)). FrameEntry (is_linked_at t.frame read (length read - 1)) ∷ flat_map row_entries rows)
-    (last_rows-apart t earlier read (omega (arith, word_count_bounds t.frame.words count)) apart (some refl))
+    rw (
+      last_linked-apart t.frame earlier read apart (some refl),
+      last_rows-apart t earlier read (omega (arith, word_count_bounds t.frame.words count)) apart (some refl),
+    ) refl
 
 module _ (t : TableRows) (b : List ℕ) (taken es : List Event) (e : Event) (after : List Event) (entries : List Entry) (read : List ReadFrame)
     (count : IsWordCount t.frame.words) (ahead : events_of b t.frame.words ≡ (taken ++ es) ++ e ∷ after)
@@ -119,12 +127,9 @@ module _ (t : TableRows) (b : List ℕ) (taken es : List Event) (e : Event) (aft
   -- the entries of one event more
   pub entries_step : entries_in t b (taken ++ (es ++ e ∷ [])) ≡ entries_in t b taken ++ (entries ++ event_entries t read e)
   entries_step =
-      ap (entries_in t b) (sym (append_assoc taken es (e ∷ [])))
-      ∙ flat_map-append (entries_at t b) (taken ++ es) (e ∷ [])
-      ∙ ap (λ (front : List Entry). front ++ (entries_at t b e ++ [])) added
-      ∙ ap (λ (rest : List Entry). (entries_in t b taken ++ entries) ++ rest)
-      (append-nil (entries_at t b e) ∙ sym (entries_as_read t b (taken ++ es) e after read count ahead as_read))
-      ∙ append_assoc (entries_in t b taken) entries (event_entries t read e)
+      rw (← append_assoc taken es (e ∷ [])) (flat_map-append (entries_at t b) (taken ++ es) (e ∷ [])
+      ∙ rw (added, append-nil (entries_at t b e), entries_as_read t b (taken ++ es) e after read count ahead as_read)
+      (append_assoc (entries_in t b taken) entries (entries_at t b e)))
 
   -- and those after it
   pub entries_rest : entries_of t b ≡ (entries_in t b taken ++ (entries ++ event_entries t read e)) ++ entries_in t b after

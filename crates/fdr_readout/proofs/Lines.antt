@@ -1,11 +1,11 @@
 -- The lines of events.
-use Rattle.std.proofs.Common.{◌≡◌, ℕ, min, inl, inr, ◌*◌, length, ◌-◌, ◌≤◌, ◌<◌, List, [], ◌∷◌, ◌++◌, true, false}
+use Rattle.std.proofs.Common.{◌≡◌, ℕ, ◌*◌, ◌-◌, ◌≤◌, ◌<◌, List, [], ◌∷◌, ◌++◌, true, false}
 use Rattle.std.proofs.Common.{sym, append_assoc, ltb, cond, ap, refl, ◌∙◌, arith}
-use Rattle.std.proofs.lemmas.Bool.{cond-false, cases_lt, le-ltb}
-use Rattle.std.proofs.lemmas.List.{append-nil, take_all}
+use Rattle.std.proofs.lemmas.Bool.{cond-false, le-ltb}
+use Rattle.std.proofs.lemmas.List.{append-nil}
 use Rattle.std.proofs.lemmas.List.Concat.{flat_map-append}
 use Rattle.fdr_listing.specs.Text.{gap_text}
-use Rattle.std.specs.Prelude.{take, ◌+◌}
+use Rattle.std.specs.Prelude.{◌+◌}
 use Rattle.std.specs.List.{flat_map}
 use Rattle.fdr_bits.specs.Bits.{bits_in}
 use Rattle.fdr_sync.specs.Frames.{IsFirstFrameFrom, HasNoFrameFrom}
@@ -13,6 +13,7 @@ use Rattle.fdr_sync.specs.Events.{Frame, Gap, gap_between, events_from}
 use Rattle.fdr_sync.proofs.EventSteps.{events_from_first, events_from_none}
 use Rattle.fdr_table.specs.Rows.{TableRows}
 use Rattle.fdr_readout.specs.Listing.{gap_lines, lines_of}
+use Rattle.fdr_readout.specs.Survival.{lines_at}
 
 -- no line of a gap without bits
 pub gap_lines-none : (from end : ℕ) → end ≤ from → gap_lines from end ≡ []
@@ -30,20 +31,19 @@ pub lines_from_first : (t : TableRows) (b : List ℕ) (free p : ℕ) → 0 < t.f
     flat_map (lines_of t b) (events_from b t.frame.words free) ≡ (gap_lines free p ++ lines_of t b (Frame p)) ++ flat_map (lines_of t b)
     (events_from b t.frame.words (p + 48 * t.frame.words))
 lines_from_first t b free p some next =
-    ap (flat_map (lines_of t b)) (events_from_first b t.frame.words free p some next)
-    ∙ flat_map-append (lines_of t b) (gap_between free p) (Frame p ∷ events_from b t.frame.words (p + 48 * t.frame.words))
-    ∙ ap (λ (gap : List ℕ). gap ++ (lines_of t b (Frame p) ++ flat_map (lines_of t b) (events_from b t.frame.words (p + 48 * t.frame.words))))
-    (gap_lines_between t b free p)
-    ∙ sym (append_assoc (gap_lines free p) (lines_of t b (Frame p)) _)
+    rw (events_from_first b t.frame.words free p some next, flat_map-append (lines_of t b) (gap_between free p) (Frame p ∷ _), gap_lines_between t b free p)
+    (sym (append_assoc (gap_lines free p) (lines_of t b (Frame p)) _))
+
+-- a frame at the very place where a search goes on
+pub lines_from_here : (t : TableRows) (b : List ℕ) (p : ℕ) → 0 < t.frame.words → IsFirstFrameFrom b t.frame.words p p →
+    flat_map (lines_of t b) (events_from b t.frame.words p) ≡ lines_at t b p ++ flat_map (lines_of t b) (events_from b t.frame.words (p + 48 * t.frame.words))
+unfolding lines_of lines_at
+lines_from_here t b p some next =
+    lines_from_first t b p p some next
+    ∙ ap (λ (gap : List ℕ). (gap ++ lines_at t b p) ++ flat_map (lines_of t b) (events_from b t.frame.words (p + 48 * t.frame.words)))
+    (gap_lines-none p p (omega arith))
 
 -- the line of the last gap, where no frame is left
 pub lines_from_none : (t : TableRows) (b : List ℕ) (free : ℕ) → HasNoFrameFrom b t.frame.words free
     → flat_map (lines_of t b) (events_from b t.frame.words free) ≡ gap_lines free (bits_in b)
 lines_from_none t b free none = ap (flat_map (lines_of t b)) (events_from_none b t.frame.words free none) ∙ gap_lines_between t b free (bits_in b)
-
--- as much as there is
-pub take_shortest : (xs : List ℕ) (n : ℕ) → take (min (length xs) n) xs ≡ take n xs
-take_shortest xs n = elim (cases_lt n (length xs)) [
-  | inl less ↦ let e : min (length xs) n ≡ n = omega arith in ap (λ k. take k xs) e
-  | inr all ↦ let e : min (length xs) n ≡ length xs = omega arith in ap (λ k. take k xs) e ∙ take_all (length xs) xs (omega arith) ∙ sym (take_all n xs all)
-]

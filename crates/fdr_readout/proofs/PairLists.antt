@@ -1,13 +1,13 @@
 -- What holds of each two elements of a list that was made in pieces.
-use Rattle.std.proofs.Common.{◌≡◌, ℕ, zero, suc, ◌+◌, ◌<◌, ◌≤◌, ◌⊎◌, inl, inr, ⊎_elim, List, [], ◌∷◌, ◌++◌, Option, Some, None, get_or, map, sym, ap, ◌∙◌}
+use Rattle.std.proofs.Common.{◌≡◌, ℕ, ◌+◌, ◌<◌, ◌≤◌, ◌⊎◌, inl, inr, ⊎_elim, List, [], ◌∷◌, ◌++◌, Option, Some, None, get_or, map, sym, ap, ◌∙◌}
 use Rattle.std.proofs.Common.{subst, arith}
-use Rattle.std.specs.Prelude.{All, AllPairs, Contains}
+use Rattle.std.specs.Prelude.{All, AllPairs, Contains, slice_get, length}
 use Rattle.std.specs.List.{flat_map, filter_map, range_with_len, enumerate_from}
 use Rattle.std.proofs.lemmas.Bool.{cases_order}
-use Rattle.std.proofs.lemmas.List.{get_or_default}
+use Rattle.std.proofs.lemmas.Option.{slice_get-get_or, slice_get_within, get_or_from_slice_get, same_Some}
+use Rattle.std.proofs.lemmas.List.FromFn.{length-range_with_len, get_or-range_with_len, length-enumerate_from, get_or-enumerate_from}
 use Rattle.std.proofs.lemmas.List.Elements.{All-nil, All-cons, All-head, All-tail, All-append, All-map, All-weaker}
 use Rattle.std.proofs.lemmas.List.Kept.{AllPairs-cons}
-use Rattle.fdr_lists.proofs.Ranges.{All-range}
 use Rattle.fdr_lists.proofs.Options.{some_or_none}
 use Rattle.fdr_lists.proofs.Pairs.{AllPairs-nil, AllPairs-head, AllPairs-tail}
 use Rattle.fdr_lists.proofs.Pieces.{All-flat_map}
@@ -41,42 +41,45 @@ AllPairs-flat_map R f (x ∷ xs) each cross =
     (AllPairs-head (λ x y. All (λ u. All (R u) (f y)) (f x)) x xs cross)))
 
 pub AllPairs_range : (R : ℕ → ℕ → Type 0) (a n : ℕ) → ((x y : ℕ) → a ≤ x → x < y → y < a + n → R x y) → AllPairs R (range_with_len a n)
-AllPairs_range R a zero each = AllPairs-nil R
-AllPairs_range R a (suc n) each =
-    AllPairs-cons R a (range_with_len (a + 1) n)
-    (All-range (R a) (a + 1) n (λ y low high. each a y (omega arith) (omega arith) (omega arith)))
-    (AllPairs_range R (a + 1) n (λ x y low less high. each x y (omega arith) less (omega arith)))
-
-numbered_from : {X : Type 0} (a n : ℕ) (xs : List X) → a ≤ n → All (λ (e : ℕ × X). a ≤ e.0) (enumerate_from n xs)
-numbered_from {X} a n [] low = All-nil (λ (e : ℕ × X). a ≤ e.0)
-numbered_from {X} a n (x ∷ xs) low = All-cons (λ (e : ℕ × X). a ≤ e.0) (n, x) (enumerate_from (n + 1) xs) low (numbered_from a (n + 1) xs (omega arith))
+AllPairs_range R a n each i j d before within =
+    let long : j < n = omega (arith, length-range_with_len a n) in
+    rw (get_or-range_with_len a n i d (omega arith), get_or-range_with_len a n j d long) (each (a + i) (a + j) (omega arith) (omega arith) (omega arith))
 
 -- numbers go up
 pub AllPairs_enumerate : {X : Type 0} (n : ℕ) (xs : List X) → AllPairs (λ (e e' : ℕ × X). e.0 < e'.0) (enumerate_from n xs)
-AllPairs_enumerate {X} n [] = AllPairs-nil (λ (e e' : ℕ × X). e.0 < e'.0)
-AllPairs_enumerate {X} n (x ∷ xs) =
-    let above : All (λ (e : ℕ × X). n < e.0) (enumerate_from (n + 1) xs) =
-    All-weaker (λ (e : ℕ × X). n + 1 ≤ e.0) (λ (e : ℕ × X). n < e.0) (λ e low. omega arith) (enumerate_from (n + 1) xs)
-    (numbered_from (n + 1) (n + 1) xs (omega arith)) in
-    AllPairs-cons (λ (e e' : ℕ × X). e.0 < e'.0) (n, x) (enumerate_from (n + 1) xs) above (AllPairs_enumerate (n + 1) xs)
+AllPairs_enumerate {X} n xs i j d before within =
+    let long : j < length xs = omega (arith, length-enumerate_from n xs) in
+    rw (get_or-enumerate_from n xs i d (omega arith), get_or-enumerate_from n xs j d long) (omega arith)
 
 -- ---- elements of a list
 
--- two elements are the same or related, where the order doesn't matter
+pub All-at : {X : Type 0} (P : X → Type 0) (xs : List X) (n : ℕ) (x : X) → All P xs → slice_get xs n ≡ Some x → P x
+All-at P xs n x all got = subst P (get_or_from_slice_get xs n x x got) (all n x (slice_get_within xs n x got))
+
+pub contained_get : {X : Type 0} (xs : List X) (x : X) (at : Contains xs x) → slice_get xs at.0 ≡ Some x
+contained_get xs x at = slice_get-get_or xs at.0 x at.1 ∙ ap Some at.2
+
+two_of : {X : Type 0} (R : X → X → Type 0) (xs : List X) (i j : ℕ) (x y : X) → AllPairs R xs → i < j → slice_get xs i ≡ Some x → slice_get xs j ≡ Some y → R x y
+two_of R xs i j x y pairs before at_i at_j =
+    subst (R x) (get_or_from_slice_get xs j y x at_j)
+    (subst (λ u. R u (get_or xs j x)) (get_or_from_slice_get xs i x x at_i) (pairs i j x before (slice_get_within xs j y at_j)))
+
+-- two elements are at the same place or related, where the order doesn't matter
+pub same_place_or_related : {X : Type 0} (R : X → X → Type 0) (xs : List X) (i j : ℕ) (x y : X) → ((u v : X) → R u v → R v u) → AllPairs R xs
+    → slice_get xs i ≡ Some x → slice_get xs j ≡ Some y → (i ≡ j) ⊎ R x y
+same_place_or_related R xs i j x y turn pairs at_i at_j =
+    ⊎_elim (λ same. inl same) (λ other. inr (⊎_elim
+    (λ (before : i < j). two_of R xs i j x y pairs before at_i at_j)
+    (λ (after : j < i). turn y x (two_of R xs j i y x pairs after at_j at_i))
+    other)) (cases_order i j)
+
 pub same_or_related : {X : Type 0} (R : X → X → Type 0) (xs : List X) (x y : X) → ((u v : X) → R u v → R v u) → AllPairs R xs → Contains xs x → Contains xs y
     → (y ≡ x) ⊎ R x y
 same_or_related R xs x y turn pairs at_x at_y =
-    let i = at_x.0 in
-    let j = at_y.0 in
-    let is_x : get_or xs i x ≡ x = at_x.2 in
-    let is_y : get_or xs j x ≡ y = get_or_default xs j x y at_y.1 ∙ at_y.2 in
-    ⊎_elim
-    (λ (same : i ≡ j). inl (sym is_y ∙ ap (λ k. get_or xs k x) (sym same) ∙ is_x))
-    (λ other. inr (⊎_elim
-    (λ (before : i < j). subst (R x) is_y (subst (λ u. R u (get_or xs j x)) is_x (pairs i j x before at_y.1)))
-    (λ (after : j < i). turn y x (subst (R y) is_x (subst (λ u. R u (get_or xs i x)) is_y (pairs j i x after at_x.1))))
-    other))
-    (cases_order i j)
+    let is_x = contained_get xs x at_x in
+    let is_y = contained_get xs y at_y in
+    ⊎_elim (λ (same : at_x.0 ≡ at_y.0). inl (same_Some y x (sym is_y ∙ ap (slice_get xs) (sym same) ∙ is_x))) (λ related. inr related)
+    (same_place_or_related R xs at_x.0 at_y.0 x y turn pairs is_x is_y)
 
 -- what holds of each value that comes of an element
 pub All_filter_map : {X Y : Type 0} (P : Y → Type 0) (h : X → Option Y) (xs : List X) → All (λ x. (y : Y) → h x ≡ Some y → P y) xs → All P (filter_map h xs)

@@ -1,12 +1,11 @@
 -- Each piece of a sample's raw value reads back from the word of its slot, and the pieces make up the value.
-use Rattle.std.proofs.Common.{◌≡◌, ℕ, ◌+◌, ◌-◌, ◌*◌, ◌/◌, ◌%◌, ◌^◌, ◌<◌, ◌==◌, List, get_or, sum_by, Some, lit<, refl, sym, ap, ◌∙◌, subst, arith}
+use Rattle.std.proofs.Common.{◌≡◌, ℕ, ◌+◌, ◌-◌, ◌*◌, ◌/◌, ◌%◌, ◌^◌, ◌<◌, ◌==◌, List, get_or, sum_by, Some, lit<, refl, sym, ap, ◌∙◌, subst, arith, ◌≤◌, ◌⊎◌}
+use Rattle.std.proofs.Common.{zero, suc, [], ◌∷◌, fold, length, inl, inr, ⊎_elim}
 use Rattle.std.specs.Prelude.{All, Contains, IsTrue, Bool, true, false, if◌then◌else◌, is_some, slice_get, Option, None}
-use Rattle.std.specs.Option.{option_map_or}
 use Rattle.std.specs.List.{range_with_len, enumerate_from}
 use Rattle.std.proofs.lemmas.Nat.{mod_below, pow_pos}
 use Rattle.std.proofs.lemmas.Bool.{eq-eqb}
-use Rattle.std.proofs.lemmas.Option.{slice_get-get_or}
-use Rattle.std.proofs.lemmas.List.Elements.{All-contains, All-contains_itself, All-filter, All-weaker}
+use Rattle.std.proofs.lemmas.List.Elements.{All-contains, All-contains_itself, All-filter, All-weaker, All-head, All-tail}
 use Rattle.fdr_bus.specs.declared.BusRecord.{BusRecord}
 use Rattle.fdr_table.specs.Rows.{ParamRow, TableRows}
 use Rattle.fdr_layout.specs.SlotParts.{SlotPart, parts_of_sample, parts_among, all_parts, parts_at, parts_of_slot, parts_in}
@@ -15,16 +14,82 @@ use Rattle.fdr_layout.specs.Samples.{Part, Sample, samples, ending_in}
 use Rattle.fdr_layout.proofs.ByLastPart.{ending_at}
 use Rattle.fdr_layout.proofs.SlotLemmas.{parts_of_slot_hold}
 use Rattle.fdr_sampler.specs.Held.{Source, HeldWord, source_of, held_word, is_fresh, field_held, raw_of_held, raw_value, first_part_slot}
-use Rattle.fdr_sampler.specs.SlotWord.{numbered_value, piece_of, data_word}
+use Rattle.fdr_sampler.specs.SlotWord.{numbered_value, piece_of, data_word, data_of}
 use Rattle.fdr_sampler.proofs.Lists.{Contains-map, Contains-filter, Contains-flat_map, Contains-range, Contains-enumerate}
-use Rattle.fdr_sampler.proofs.DataWords.{IsWithin}
+use Rattle.fdr_sampler.proofs.DataWords.{IsWithin, with_part, piece_fits, data_of-fold}
 use Rattle.fdr_sampler.proofs.SlotFacts.{parts_of_slot_in}
 use Rattle.fdr_sampler.proofs.Standing.{numbered_value_at}
-use Rattle.fdr_readout.proofs.Recordable.{IsPlaced, IsRecordable}
-use Rattle.fdr_readout.proofs.RecordedWords.{parts_in-placed}
-use Rattle.fdr_readout.proofs.PartsApart.{IsOther, data_carries}
+use Rattle.fdr_readout.proofs.Recordable.{IsPlaced, IsRecordable, AreApart}
 use Rattle.fdr_lists.proofs.Sums.{sum_by-agree}
 use Rattle.fdr_lists.proofs.Pieces.{All-flat_map-range}
+use Rattle.fdr_bits.specs.Fields.{field_of}
+use Rattle.fdr_bits.proofs.FieldLemmas.{field_of-with_field}
+use Rattle.fdr_bits.proofs.FieldsApart.{field_of-with_field_apart}
+
+-- ---- a part of a word reads back, where each other part of the word is apart from it
+
+-- in the same slot b is a itself, or shares no bit with it
+pub record IsOther (a b : SlotPart) : Type 0 where
+  pub slot : b.part.at / 12 ≡ a.part.at / 12
+  pub apart : (b ≡ a) ⊎ AreApart a b
+
+-- the word has the part's piece of its sample's raw value
+pub Carries : (ℕ → ℕ) → SlotPart → ℕ → Type 0
+Carries value a word = field_of word (a.part.at % 12) a.part.width ≡ piece_of (value a.sample) a.part
+
+-- what is written reads back
+carries_itself : (value : ℕ → ℕ) (word : ℕ) (a : SlotPart) → Carries value a (with_part value word a)
+unfolding Carries
+carries_itself value word a = field_of-with_field word (a.part.at % 12) a.part.width (piece_of (value a.sample) a.part) (piece_fits value a)
+
+-- parts that are apart in one slot share no bit of its word
+bits_apart : (a b : SlotPart) → b.part.at / 12 ≡ a.part.at / 12 → AreApart a b →
+    (a.part.at % 12 + a.part.width ≤ b.part.at % 12) ⊎ (b.part.at % 12 + b.part.width ≤ a.part.at % 12)
+bits_apart a b slot apart =
+    ⊎_elim
+    (λ (below : a.part.at + a.part.width ≤ b.part.at). inl (omega arith))
+    (λ (above : b.part.at + b.part.width ≤ a.part.at). inr (omega arith))
+    apart
+
+-- a further part changes no piece that the word has
+carries_still : (value : ℕ → ℕ) (word : ℕ) (a b : SlotPart) → IsOther a b → Carries value a word → Carries value a (with_part value word b)
+unfolding Carries
+carries_still value word a b other carries =
+    ⊎_elim
+    (λ (same : b ≡ a). subst (λ (x : SlotPart). Carries value a (with_part value word x)) (sym same) (carries_itself value word a))
+    (λ (apart : AreApart a b).
+    field_of-with_field_apart word (b.part.at % 12) b.part.width (piece_of (value b.sample) b.part) (a.part.at % 12) a.part.width (piece_fits value b)
+    (bits_apart a b other.slot apart)
+    ∙ carries)
+    other.apart
+
+-- nor do several of them
+carries_on : (value : ℕ → ℕ) (a : SlotPart) (parts : List SlotPart) (word : ℕ) → All (IsOther a) parts → Carries value a word
+    → Carries value a (fold (with_part value) word parts)
+carries_on value a [] word others carries = carries
+carries_on value a (b ∷ parts) word others carries =
+    carries_on value a parts (with_part value word b) (All-tail (IsOther a) b parts others)
+    (carries_still value word a b (All-head (IsOther a) b parts others) carries)
+
+-- once the part itself was written, the word has its piece
+carries_from : (value : ℕ → ℕ) (a : SlotPart) (parts : List SlotPart) (word k : ℕ) → All (IsOther a) parts → k < length parts → get_or parts k a ≡ a
+    → Carries value a (fold (with_part value) word parts)
+carries_from value a [] word k others within is = absurd (omega arith)
+carries_from value a (b ∷ parts) word zero others within is =
+    carries_on value a parts (with_part value word b) (All-tail (IsOther a) b parts others)
+    (subst (λ (x : SlotPart). Carries value a (with_part value word x)) (sym is) (carries_itself value word a))
+carries_from value a (b ∷ parts) word (suc k) others within is =
+    carries_from value a parts (with_part value word b) k (All-tail (IsOther a) b parts others) (omega arith) is
+
+-- a word of data has each of its parts' pieces
+pub data_carries : (value : ℕ → ℕ) (a : SlotPart) (parts : List SlotPart) → All IsWithin parts → All (IsOther a) parts → Contains parts a →
+    data_of value parts / 2 ^ (a.part.at % 12) % 2 ^ a.part.width ≡ piece_of (value a.sample) a.part
+unfolding Carries
+data_carries value a parts within others here =
+    ap (λ word. word / 2 ^ (a.part.at % 12) % 2 ^ a.part.width) (data_of-fold value parts within)
+    ∙ carries_from value a parts 0 here.0 others here.1 here.2
+
+-- ---- the parts of samples
 
 -- part p of sample n
 abbrev pub part_of : ℕ → Part → SlotPart
@@ -45,6 +110,10 @@ parts_in-contain t a here =
     let k = a.part.at / 12 in
     Contains-flat_map (parts_at (all_parts t)) (range_with_len (12 * k) 12) a.part.at a (Contains-range (12 * k) 12 a.part.at (omega arith) (omega arith))
     (Contains-filter (λ (b : SlotPart). b.part.at == a.part.at) (all_parts t) a (eq-eqb a.part.at a.part.at refl) here)
+
+-- each part in a slot lies within its word
+parts_in-placed : (t : TableRows) (k : ℕ) → IsRecordable t → All (λ (a : SlotPart). IsPlaced t.frame a.part) (parts_in t k)
+parts_in-placed t k h = parts_of_slot_hold (λ (a : SlotPart). IsPlaced t.frame a.part) (parts_among (samples t)) k h.placed
 
 -- the parts of a slot share no bit
 others_in_slot : (t : TableRows) (a : SlotPart) → IsRecordable t → Contains (all_parts t) a → All (IsOther a) (parts_in t (a.part.at / 12))
@@ -86,19 +155,15 @@ raw-below false true true field width low one = low
 raw-below false true false field width low one = let some = pow_pos width in omega arith
 raw-below false false fresh field width low one = low
 
-raw_of-below : (w : ℕ) (s : Source) (k : ℕ) (held : Option HeldWord) → (IsTrue s.tells → s.width ≡ 1) → raw_of_held w s k held < 2 ^ s.width
-unfolding raw_of_held
-raw_of-below w s k held one = raw-below s.tells (is_some s.age) (is_fresh w s k held) (field_held s held) s.width (field-below s held) one
-
 raw_value-below : (t : TableRows) (records : List BusRecord) (start : ℕ) (s : Sample) (p : ParamRow) → IsRecordable t → slice_get t.params s.param ≡ Some p
     → raw_value t records start s < 2 ^ p.width
-unfolding raw_value
+unfolding raw_value raw_of_held
 raw_value-below t records start s p h got =
     let w = t.frame.words in
     let k = start + first_part_slot s in
-    subst (λ (o : Option ParamRow). option_map_or (λ (p : ParamRow). raw_of_held w (source_of p) k (held_word w (source_of p) records k)) o 0 < 2 ^ p.width)
-    (sym got)
-    (raw_of-below w (source_of p) k (held_word w (source_of p) records k) (h.telling s.param p got))
+    let held = held_word w (source_of p) records k in
+    rw got (raw-below p.tells (is_some p.age) (is_fresh w (source_of p) k held) (field_held (source_of p) held) p.width (field-below (source_of p) held)
+    (h.telling s.param p got))
 
 -- bits of parts that are the pieces of a sample's raw value make it up
 pub pieces_make_up : (t : TableRows) (records : List BusRecord) (start n : ℕ) (s : Sample) (bits : Part → ℕ) → IsRecordable t → slice_get (samples t) n ≡ Some s
@@ -121,6 +186,3 @@ ending_in-samples t cycle =
     let w = t.frame.words in
     All-flat_map-range (Contains (samples t)) (ending_at (samples t)) (frame_bits w * cycle) (frame_bits w)
     (λ x low high. All-filter _ (Contains (samples t)) (samples t) (All-contains_itself (samples t)))
-
-pub contained_get : {X : Type 0} (xs : List X) (x : X) (at : Contains xs x) → slice_get xs at.0 ≡ Some x
-contained_get xs x at = slice_get-get_or xs at.0 x at.1 ∙ ap Some at.2

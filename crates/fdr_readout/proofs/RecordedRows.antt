@@ -1,9 +1,9 @@
--- The rows of recorded frames are the sampled rows.
-use Rattle.std.proofs.Common.{◌≡◌, ℕ, ◌+◌, ◌-◌, ◌*◌, ◌/◌, ◌%◌, ◌^◌, ◌≤◌, Bool, List, [], ◌∷◌, map, Some, Option, refl, sym, ap, ◌∙◌, subst, arith}
+-- Frames that were read as a recording has them: how they are joined, and that their rows are the sampled rows.
+use Rattle.std.proofs.Common.{◌≡◌, ℕ, ◌+◌, ◌-◌, ◌*◌, ◌/◌, ◌%◌, ◌^◌, ◌≤◌, Bool, List, [], ◌∷◌, map, Some, Option, refl, sym, ap, ◌∙◌, subst, arith, ◌<◌, true}
 use Rattle.std.specs.Prelude.{All, Contains, filter, nat_le, slice_index, slice_get}
 use Rattle.std.specs.List.{filter_map}
 use Rattle.std.proofs.lemmas.Nat.{mod_below}
-use Rattle.std.proofs.lemmas.Bool.{cond-true, leb-true}
+use Rattle.std.proofs.lemmas.Bool.{cond-true, leb-true, and_from, le-leb, eq-eqb}
 use Rattle.std.proofs.lemmas.List.Elements.{All-contains_itself}
 use Rattle.std.proofs.Math.Nat.{div-div-eq-div-mul, div-add-mod}
 use Rattle.fdr_bus.specs.declared.BusRecord.{BusRecord}
@@ -17,14 +17,25 @@ use Rattle.fdr_sampler.specs.Held.{raw_value}
 use Rattle.fdr_sampler.specs.SlotWord.{piece_of, data_word, slot_word}
 use Rattle.fdr_recon.specs.declared.Row.{Row}
 use Rattle.fdr_recon.specs.Rows.{ReadFrame, frame_at, cycle_of_frame, reach, bits_of, raw_of_parts, row_with, row_of, rows_looked_at, rows_of_frame}
+use Rattle.fdr_recon.specs.Rows.{counter_place, counter_in, are_linked, are_joined}
 use Rattle.fdr_readout.proofs.Recordable.{IsRecordable}
 use Rattle.fdr_readout.specs.SampledRows.{superframe_start, sampled_row, sampled_rows}
 use Rattle.fdr_readout.specs.Survival.{AreAmong, sampled_since}
-use Rattle.fdr_readout.proofs.SlotKinds.{slot_word-plain}
+use Rattle.fdr_readout.proofs.SlotKinds.{slot_word-plain, counter_place-within, slot_word-counter}
 use Rattle.fdr_readout.proofs.Among.{among_filtered}
-use Rattle.fdr_readout.proofs.Recorded.{AddsToRun, recorded_counter, recorded_cycle, recorded_joined}
-use Rattle.fdr_readout.proofs.PiecesBack.{data_word-piece, part_placed, pieces_make_up, ending_in-samples, contained_get}
+use Rattle.fdr_readout.proofs.PiecesBack.{data_word-piece, part_placed, pieces_make_up, ending_in-samples}
+use Rattle.fdr_readout.proofs.PairLists.{contained_get}
 use Rattle.fdr_lists.proofs.Filters.{map-agree}
+use Rattle.fdr_lists.proofs.Ranges.{list_all-range}
+
+-- Frame n of those that were read is frame j of the recording, and so are the d frames before it: they have the words of the
+-- recording's slots, and each but the first of them begins where the one before it ends.
+pub record AddsToRun (t : TableRows) (records : List BusRecord) (frames : List ReadFrame) (n j d : ℕ) : Type 0 where
+  pub read : d ≤ n
+  pub recorded : d ≤ j
+  pub words : (e place : ℕ) → e ≤ d → place < 4 * t.frame.words →
+      slice_index (frame_at frames (n - e)).words place ≡ slot_word t records (4 * t.frame.words * (j - e) + place)
+  pub adjacent : (e : ℕ) → e < d → (frame_at frames (n - e)).adjacent ≡ true
 
 -- the slot of a place of the frame that is as many before frame j as cycle c does before that of frame j
 slot_back : (w j c q : ℕ) → c ≤ j % 16 → 4 * w * (j - (j % 16 - c)) + q ≡ 64 * w * (j / 16) + (4 * w * c + q)
@@ -36,8 +47,7 @@ slot_back w j c q low =
 slot_by_cycle : (w at : ℕ) → 4 * w * cycle_of w at + at / 12 % (4 * w) ≡ at / 12
 slot_by_cycle w at =
     let by : 12 * (4 * w) ≡ 48 * w = omega arith in
-    let cycle : at / 12 / (4 * w) ≡ cycle_of w at = div-div-eq-div-mul at 12 (4 * w) ∙ ap (λ n. at / n) by in
-    ap (λ c. 4 * w * c + at / 12 % (4 * w)) (sym cycle) ∙ div-add-mod (at / 12) (4 * w)
+    rw (← (div-div-eq-div-mul at 12 (4 * w) ∙ ap (λ n. at / n) by)) (div-add-mod (at / 12) (4 * w))
 
 -- a filter that drops nothing
 filter_map-some : {X Y : Type 0} (g : X → Y) (xs : List X) → filter_map (λ (r : Option Y). r) (map (λ x. Some (g x)) xs) ≡ map g xs
@@ -45,6 +55,30 @@ filter_map-some g [] = refl
 filter_map-some g (x ∷ xs) = ap (λ ys. g x ∷ ys) (filter_map-some g xs)
 
 module _ (t : TableRows) (records : List BusRecord) (frames : List ReadFrame) (n j d : ℕ) (h : IsRecordable t) (are : AddsToRun t records frames n j d) where
+  -- the counter of the frame that stands e before frame n
+  pub recorded_counter : (e : ℕ) → e ≤ d → counter_in t.frame (frame_at frames (n - e)).words ≡ (j - e) % 4096
+  recorded_counter e near = are.words e (counter_place t.frame) near (counter_place-within t h) ∙ slot_word-counter t records (j - e) h
+
+  -- frame n is frame j of the recording, so this is its place in the superframe
+  pub recorded_cycle : cycle_of_frame t.frame (frame_at frames n).words ≡ j % 16
+  recorded_cycle =
+      let here : n ≡ n - 0 = omega arith in
+      ap (λ i. cycle_of_frame t.frame (frame_at frames i).words) here ∙ ap (λ k. k % 16) (recorded_counter 0 (omega arith)) ∙ omega arith
+
+  -- each frame is linked to the one before it
+  linked_back : (e : ℕ) → e < d → are_linked t.frame (frame_at frames (n - (e + 1))) (frame_at frames (n - e)) ≡ true
+  unfolding are_linked
+  linked_back e near =
+      let within = are.recorded in
+      let next : (j - e) % 4096 ≡ ((j - (e + 1)) % 4096 + 1) % 4096 = omega arith in
+      let counters = recorded_counter e (omega arith) ∙ next ∙ ap (λ k. (k + 1) % 4096) (sym (recorded_counter (e + 1) (omega arith))) in
+      and_from _ _ (are.adjacent e near) (eq-eqb _ _ counters)
+
+  -- the frames back to any of these are joined
+  pub recorded_joined : (k : ℕ) → k ≤ d → are_joined t.frame frames n k ≡ true
+  unfolding are_joined
+  recorded_joined k few = and_from (nat_le k n) _ (le-leb k n (omega (arith, are.read))) (list_all-range _ 0 k (λ e low high. linked_back e (omega arith)))
+
   -- the word of a part is that of its slot in the superframe of frame j
   part_word : (k : ℕ) (s : Sample) (p : Part) → slice_get (samples t) k ≡ Some s → Contains s.parts p →
       cycle_of t.frame.words p.at ≤ j % 16 → j % 16 - cycle_of t.frame.words p.at ≤ d →
@@ -80,13 +114,11 @@ module _ (t : TableRows) (records : List BusRecord) (frames : List ReadFrame) (n
       row_of t frames n s ≡ Some (sampled_row t records j s)
   unfolding row_of sampled_row
   recorded_row k s got ends near =
-      let w = t.frame.words in
-      let e = reach w s.parts in
-      cond-true _ _ _ (recorded_joined t records frames n j d h are e near)
-      ∙ ap (λ counter. Some (row_with t s counter (raw_of_parts w frames n (cycle_of_frame t.frame (frame_at frames n).words) s.parts)))
-      (recorded_counter t records frames n j d h are e near)
-      ∙ ap (λ cycle. Some (row_with t s ((j - e) % 4096) (raw_of_parts w frames n cycle s.parts))) (recorded_cycle t records frames n j d h are)
-      ∙ ap (λ raw. Some (row_with t s ((j - e) % 4096) raw)) (recorded_raw k s got ends near)
+      let e = reach t.frame.words s.parts in
+      cond-true _ _ _ (recorded_joined e near)
+      ∙ ap (λ counter. Some (row_with t s counter (raw_of_parts t.frame.words frames n (cycle_of_frame t.frame (frame_at frames n).words) s.parts)))
+      (recorded_counter e near)
+      ∙ rw (recorded_cycle, recorded_raw k s got ends near) refl
 
   -- the row of each sample that ends in this frame's cycle and lies within the recorded frames
   row_of_each :
@@ -101,7 +133,7 @@ module _ (t : TableRows) (records : List BusRecord) (frames : List ReadFrame) (n
 
   rows_by_cycle : rows_of_frame t frames n ≡ filter_map (λ (r : Option Row). r) (map (row_of t frames n) (ending_in t (j % 16)))
   unfolding rows_of_frame rows_looked_at
-  rows_by_cycle = ap (λ cycle. filter_map (λ (r : Option Row). r) (map (row_of t frames n) (ending_in t cycle))) (recorded_cycle t records frames n j d h are)
+  rows_by_cycle = ap (λ cycle. filter_map (λ (r : Option Row). r) (map (row_of t frames n) (ending_in t cycle))) (recorded_cycle)
 
   -- where the whole superframe up to frame j is recorded, the rows of frame n are the sampled ones
   pub recorded_rows : j % 16 ≤ d → rows_of_frame t frames n ≡ sampled_rows t records j

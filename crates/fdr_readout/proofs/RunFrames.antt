@@ -1,12 +1,13 @@
--- The frames of a surviving run: they are accepted one after another.
-use Rattle.std.proofs.Common.{◌≡◌, ℕ, zero, suc, ◌+◌, ◌-◌, ◌*◌, ◌<◌, ◌≤◌, true, false, ltb, eqb, List, [], ◌∷◌, ◌++◌, sym, ap, refl, ◌∙◌, subst, ⊎_elim, arith}
-use Rattle.std.specs.Prelude.{◌==◌}
-use Rattle.std.specs.List.{list_any}
+-- The frames of a surviving run: they are accepted one after another, and listed with their rows.
+use Rattle.std.proofs.Common.{◌≡◌, ℕ, zero, suc, ◌+◌, ◌-◌, ◌*◌, ◌<◌, ◌≤◌, true, false, ltb, eqb, List, [], ◌∷◌, ◌++◌, sym, ap, refl, ◌∙◌, subst, ⊎_elim}
+use Rattle.std.proofs.Common.{add-one, arith, ◌%◌, map, length, length-append, append_assoc}
+use Rattle.std.specs.Prelude.{slice_index}
+use Rattle.std.specs.List.{range_with_len, flat_map}
 use Rattle.std.proofs.lemmas.Nat.{mul-le}
 use Rattle.std.proofs.lemmas.Bool.{cases_lt, cases_Bool, and_from, lt-ltb, eq-eqb, false≢true}
-use Rattle.std.proofs.lemmas.List.{append_assoc, append-nil}
-use Rattle.std.proofs.lemmas.List.FromFn.{map-range_with_len_more}
-use Rattle.fdr_bits.specs.Bits.{bits_in, bit_at}
+use Rattle.std.proofs.lemmas.List.{append_assoc, append-nil, get_or-map, get_or_append_left, get_or-append-add}
+use Rattle.std.proofs.lemmas.List.FromFn.{map-range_with_len_more, length-map-range_with_len, get_or-map-range_with_len}
+use Rattle.fdr_bits.specs.Bits.{bits_in, bit_at, word_at}
 use Rattle.fdr_bus.specs.declared.BusRecord.{BusRecord}
 use Rattle.fdr_table.specs.Rows.{TableRows}
 use Rattle.fdr_sampler.specs.Stream.{stream_of}
@@ -16,11 +17,18 @@ use Rattle.fdr_sync.specs.Events.{Event, Frame, gap_between, events_from, events
 use Rattle.fdr_sync.proofs.FrameLemmas.{frame_within}
 use Rattle.fdr_sync.proofs.SameLemmas.{frame_same}
 use Rattle.fdr_sync.proofs.EventSteps.{events_from_first}
-use Rattle.fdr_readout.specs.Listing.{accepted_to}
-use Rattle.fdr_readout.specs.Survival.{IsClearBefore, Survives, frames_from}
+use Rattle.fdr_readout.specs.Listing.{accepted_to, frame_words, frame_read, rows_at, gap_lines, lines_of, listing_of}
+use Rattle.fdr_readout.specs.Survival.{IsClearBefore, Survives, frames_from, AreAcceptedInARow, AreAmong, sampled_since, lines_at}
 use Rattle.fdr_readout.proofs.Recordable.{IsRecordable}
 use Rattle.fdr_readout.proofs.SoFarLemmas.{SoFar, SoFar-none, all_split, accepted_to_next, adjacent_next, so_far_next}
-use Rattle.fdr_readout.proofs.StreamFrames.{frame_place, some_words, next_frame}
+use Rattle.fdr_readout.proofs.StreamFrames.{word_at-stream, frame_place, some_words, next_frame, slot_within_frames}
+use Rattle.fdr_bits.proofs.WordLemmas.{word_at_same}
+use Rattle.fdr_sampler.specs.SlotWord.{slot_word}
+use Rattle.fdr_recon.specs.Rows.{ReadFrame, frame_at, rows_of_frame}
+use Rattle.fdr_readout.specs.SampledRows.{sampled_rows, whole_frames}
+use Rattle.fdr_readout.proofs.RecordedRows.{AddsToRun, recorded_joined, recorded_rows, recorded_since}
+use Rattle.std.proofs.lemmas.List.Concat.{flat_map-append}
+use Rattle.fdr_readout.proofs.Lines.{lines_from_first, lines_from_here}
 
 -- ---- a search comes to a frame that no other one reaches into
 
@@ -134,9 +142,8 @@ module _ (t : TableRows) (records : List BusRecord) (b : List ℕ) (q j m : ℕ)
   frames_to : (i : ℕ) →
       (run_reached.frames ++ frames_from t.frame.words q i) ++ (q + 48 * t.frame.words * i) ∷ [] ≡ run_reached.frames ++ frames_from t.frame.words q (i + 1)
   frames_to i =
-      let w = t.frame.words in
-      let frames = run_reached.frames in
-      append_assoc frames (frames_from w q i) ((q + 48 * w * i) ∷ []) ∙ ap (λ (xs : List ℕ). frames ++ xs) (sym (frames_from-more w q i))
+      append_assoc run_reached.frames (frames_from t.frame.words q i) _
+      ∙ ap (λ (xs : List ℕ). run_reached.frames ++ xs) (sym (frames_from-more t.frame.words q i))
 
   -- The search comes to frame i of the run: it goes on at bit `free`, which is where this frame begins if it isn't the first.
   pub record ComesTo (i : ℕ) : Type 0 where
@@ -147,30 +154,22 @@ module _ (t : TableRows) (records : List BusRecord) (b : List ℕ) (q j m : ℕ)
 
   pub comes_to : (i : ℕ) → i < m → ComesTo i
   comes_to zero early =
-      let w = t.frame.words in
-      let r = run_reached in
-      let first : q ≡ q + 48 * w * 0 = omega arith in
-      let none : r.frames ≡ r.frames ++ frames_from w q 0 = sym (append-nil r.frames) in
+      let first : q ≡ q + 48 * t.frame.words * 0 = omega arith in
       record {
-        free = r.free;
-        so_far = subst (SoFar b w r.free) none r.so_far;
-        next = subst (IsFirstFrameFrom b w r.free) first r.next;
+        free = run_reached.free;
+        so_far = subst (SoFar b t.frame.words run_reached.free) (sym (append-nil run_reached.frames)) run_reached.so_far;
+        next = subst (IsFirstFrameFrom b t.frame.words run_reached.free) first run_reached.next;
         here = λ later. absurd (omega arith);
       }
   comes_to (suc i) early =
       let w = t.frame.words in
       let before = comes_to i (omega arith) in
       let p = q + 48 * w * i in
-      let frames = run_reached.frames in
       let at : p + 48 * w ≡ q + 48 * w * suc i = omega arith in
-      let one_more : i + 1 ≡ suc i = omega arith in
-      let listed : (frames ++ frames_from w q i) ++ p ∷ [] ≡ frames ++ frames_from w q (suc i) =
-      frames_to i ∙ ap (λ k. frames ++ frames_from w q k) one_more in
       record {
         free = q + 48 * w * suc i;
-        so_far = subst (SoFar b w (q + 48 * w * suc i)) listed
-            (subst (λ free. SoFar b w free ((frames ++ frames_from w q i) ++ p ∷ [])) at
-            (so_far_next b w before.free p (frames ++ frames_from w q i) (some_words t records h) before.so_far before.next));
+        so_far = subst (λ free. SoFar b w free (run_reached.frames ++ frames_from w q (suc i))) at (subst (SoFar b w (p + 48 * w)) (rw add-one at (frames_to i))
+            (so_far_next b w before.free p (run_reached.frames ++ frames_from w q i) (some_words t records h) before.so_far before.next));
         next = first_here b w (q + 48 * w * suc i) (run_position (suc i) early);
         here = λ later. refl;
       }
@@ -198,14 +197,171 @@ module _ (t : TableRows) (records : List BusRecord) (b : List ℕ) (q j m : ℕ)
       accepted_to_next b w at.free (q + 48 * w * i) (run_reached.frames ++ frames_from w q i) (some_words t records h) at.so_far at.next ∙ frames_to i
 
   -- each frame but the first begins where the one before it ends
-  pub run_adjacent : (i : ℕ) → 0 < i → i < m →
-      list_any (λ x. x + 48 * t.frame.words == q + 48 * t.frame.words * i) (accepted_frames b t.frame.words) ≡ true
+  run_adjacent : (i : ℕ) → 0 < i → i < m → (frame_read b t.frame.words (q + 48 * t.frame.words * i)).adjacent ≡ true
+  unfolding frame_read
   run_adjacent i later early =
       let w = t.frame.words in
       let p = q + 48 * w * i in
-      let some = some_words t records h in
       let at = comes_to i early in
       let far : 48 * w * 1 ≤ 48 * w * i = mul-le (48 * w) 1 (48 * w) i (omega arith) (omega arith) in
+      let some = some_words t records h in
       let ends : at.free ≡ p = at.here later in
       adjacent_next b w at.free p (run_reached.frames ++ frames_from w q i) some at.so_far at.next
       ∙ and_from (ltb 0 at.free) (eqb p at.free) (lt-ltb 0 at.free (omega (arith, far))) (eq-eqb p at.free (sym ends))
+
+  -- ---- their rows
+
+  -- the accepted frames before the run
+  before_run : List ℕ
+  before_run = run_reached.frames
+
+  -- frame i of the run as it is read, with frames before and after
+  frame_at-run : (i k : ℕ) (rest : List ℕ) → i < k →
+      frame_at (map (frame_read b t.frame.words) (before_run ++ frames_from t.frame.words q k ++ rest)) (length before_run + i)
+      ≡ frame_read b t.frame.words (q + 48 * t.frame.words * i)
+  frame_at-run i k rest early =
+      let w = t.frame.words in
+      let run = frames_from w q k in
+      let count : length run ≡ k = length-map-range_with_len (λ i. q + 48 * w * i) 0 k in
+      let front : length before_run + i < length (before_run ++ run) = omega (arith, length-append before_run run, count) in
+      get_or-map (frame_read b w) (before_run ++ run ++ rest) (length before_run + i) 0 _ (omega (arith, front, length-append (before_run ++ run) rest))
+      ∙ ap (frame_read b w) (get_or_append_left (before_run ++ run) rest 0 (length before_run + i) front
+      ∙ get_or-append-add before_run run i 0 ∙ get_or-map-range_with_len (λ i. q + 48 * w * i) 0 k i i 0 early (omega arith))
+
+  -- it has the words of frame j + i of the recording
+  words_of_run : (i place : ℕ) → i < m → place < 4 * t.frame.words →
+      slice_index (frame_read b t.frame.words (q + 48 * t.frame.words * i)).words place ≡ slot_word t records (4 * t.frame.words * (j + i) + place)
+  unfolding frame_read frame_words
+  words_of_run i place early low =
+      let w = t.frame.words in
+      let s = stream_of t records in
+      let p = q + 48 * w * i in
+      let o = frame_place w (j + i) in
+      let there : o + 12 * place ≡ 12 * (4 * w * (j + i) + place) = omega arith in
+      get_or-map-range_with_len (λ k. word_at b (p + 12 * k)) 0 (4 * w) place place 0 low (omega arith)
+      ∙ word_at_same b s (p + 12 * place) (o + 12 * place) (λ x few.
+      let bit : p + 12 * place + x ≡ p + (12 * place + x) = omega arith in
+      let recorded : o + (12 * place + x) ≡ o + 12 * place + x = omega arith in
+      ap (bit_at b) bit ∙ run_bit i (12 * place + x) early (omega arith) ∙ ap (bit_at s) recorded)
+      ∙ ap (word_at s) there
+      ∙ word_at-stream t records (4 * w * (j + i) + place) (slot_within_frames t records h (j + i) place (omega (arith, survives.whole)) low)
+
+  -- so it is read as it was recorded, and so are those of the run before it
+  run_recorded : (i k : ℕ) (rest : List ℕ) → i < k → k ≤ m →
+      AddsToRun t records (map (frame_read b t.frame.words) (before_run ++ frames_from t.frame.words q k ++ rest)) (length before_run + i) (j + i) i
+  run_recorded i k rest early within =
+      let w = t.frame.words in
+      let frames = map (frame_read b w) (before_run ++ frames_from w q k ++ rest) in
+      let at : (e : ℕ) → e ≤ i → frame_at frames (length before_run + i - e) ≡ frame_read b w (q + 48 * w * (i - e)) = λ e near.
+      let index : length before_run + i - e ≡ length before_run + (i - e) = omega arith in
+      ap (frame_at frames) index ∙ frame_at-run (i - e) k rest (omega arith) in
+      record {
+        read = omega arith;
+        recorded = omega arith;
+        words = λ e place near low.
+            let slot : j + (i - e) ≡ j + i - e = omega arith in
+            ap (λ (r : ReadFrame). slice_index r.words place) (at e near)
+            ∙ words_of_run (i - e) place (omega arith) low ∙ ap (λ k. slot_word t records (4 * w * k + place)) slot;
+        adjacent = λ e near. ap (λ (r : ReadFrame). r.adjacent) (at e (omega arith)) ∙ run_adjacent (i - e) (omega arith) (omega arith);
+      }
+
+  -- the frames of the run are accepted, one next to the other, and joined
+  pub run_in_a_row : AreAcceptedInARow t b q m
+  run_in_a_row =
+      let w = t.frame.words in
+      let some = survives.not_empty in
+      let behind = accepted_from b w (q + 48 * w * (m - 1) + 48 * w) in
+      let accepted : accepted_frames b w ≡ before_run ++ frames_from w q m ++ behind = unfold before_run in run_accepted in
+      let recorded = run_recorded (m - 1) m behind (omega arith) (omega arith) in
+      record {
+        before = before_run;
+        behind = behind;
+        accepted = accepted;
+        joined = rw accepted (recorded_joined t records _ (length before_run + (m - 1)) (j + (m - 1)) (m - 1) h recorded (m - 1) (omega arith));
+      }
+
+  -- the rows of frame i of the run, by the frames up to it
+  rows_of_run : (i : ℕ) → i < m →
+      rows_at t b (q + 48 * t.frame.words * i)
+      ≡ rows_of_frame t (map (frame_read b t.frame.words) (before_run ++ frames_from t.frame.words q (i + 1) ++ [])) (length before_run + i)
+  unfolding rows_at before_run
+  rows_of_run i early =
+      let w = t.frame.words in
+      let to = before_run ++ frames_from w q (i + 1) in
+      let count : length (frames_from w q (i + 1)) ≡ i + 1 = length-map-range_with_len (λ i. q + 48 * w * i) 0 (i + 1) in
+      let last : length to - 1 ≡ length before_run + i = omega (arith, length-append before_run (frames_from w q (i + 1)), count) in
+      ap (λ (xs : List ℕ). rows_of_frame t (map (frame_read b w) xs) (length xs - 1)) (accepted_to_run i early)
+      ∙ ap (rows_of_frame t (map (frame_read b w) to)) last
+      ∙ ap (λ (xs : List ℕ). rows_of_frame t (map (frame_read b w) xs) (length before_run + i)) (sym (append-nil to))
+
+  -- those that were sampled from frame j on are among them
+  pub run_rows : (i : ℕ) → i < m → AreAmong (sampled_since t records j (j + i)) (rows_at t b (q + 48 * t.frame.words * i))
+  run_rows i early =
+      subst (AreAmong (sampled_since t records j (j + i))) (sym (rows_of_run i early))
+      (recorded_since t records _ (length before_run + i) (j + i) i h (run_recorded i (i + 1) [] (omega arith) (omega arith)) j (omega arith))
+
+  -- and where the superframe up to this frame lies within the run, there are no others
+  pub run_all_rows : (i : ℕ) → i < m → (j + i) % 16 ≤ i → rows_at t b (q + 48 * t.frame.words * i) ≡ sampled_rows t records (j + i)
+  run_all_rows i early whole =
+      rows_of_run i early ∙ recorded_rows t records _ (length before_run + i) (j + i) i h (run_recorded i (i + 1) [] (omega arith) (omega arith)) whole
+
+  -- ---- their lines
+
+  -- the lines from bit a on
+  abbrev lines_from : ℕ → List ℕ
+  lines_from a = flat_map (lines_of t b) (events_from b t.frame.words a)
+
+  -- the lines from frame i of the run on, where d of its frames are left
+  lines_from_run : (i d : ℕ) → i + d ≡ m →
+      lines_from (q + 48 * t.frame.words * i)
+      ≡ flat_map (lines_at t b) (map (λ k. q + 48 * t.frame.words * k) (range_with_len i d)) ++ lines_from (q + 48 * t.frame.words * m)
+  lines_from_run i zero left =
+      let here : i ≡ m = omega arith in
+      ap (λ k. lines_from (q + 48 * t.frame.words * k)) here
+  lines_from_run i (suc d) left =
+      let w = t.frame.words in
+      let p = q + 48 * w * i in
+      let next : p + 48 * w ≡ q + 48 * w * (i + 1) = omega arith in
+      lines_from_here t b p (some_words t records h) (first_here b w p (run_position i (omega arith)))
+      ∙ ap (λ a. lines_at t b p ++ lines_from a) next
+      ∙ ap (λ (lines : List ℕ). lines_at t b p ++ lines) (lines_from_run (i + 1) d (omega arith))
+      ∙ sym (append_assoc (lines_at t b p) (flat_map (lines_at t b) (map (λ k. q + 48 * w * k) (range_with_len (i + 1) d))) _)
+
+  -- the lines of the run are together in the listing
+  pub run_lines : (front : List ℕ) × (back : List ℕ) × (listing_of t b ≡ front ++ flat_map (lines_at t b) (frames_from t.frame.words q m) ++ back)
+  unfolding listing_of lines_of lines_at
+  run_lines =
+      let w = t.frame.words in
+      let r = run_reached in
+      let some = some_words t records h in
+      let before = flat_map (lines_of t b) r.events in
+      let gap = gap_lines r.free q in
+      let run = flat_map (lines_at t b) (frames_from w q m) in
+      let first : q ≡ q + 48 * w * 0 = omega arith in
+      let come : lines_from r.free ≡ gap ++ lines_from q = lines_from_first t b r.free q some r.next
+      ∙ append_assoc gap (lines_of t b (Frame q)) (lines_from (q + 48 * w))
+      ∙ ap (λ (xs : List ℕ). gap ++ xs) (sym (lines_from_here t b q some (first_here b w q r.next.position))) in
+      let all : lines_from q ≡ run ++ lines_from (q + 48 * w * m) = ap lines_from first ∙ lines_from_run 0 m (omega arith) in (
+        before ++ gap,
+        lines_from (q + 48 * w * m),
+        ap (flat_map (lines_of t b)) r.decided ∙ flat_map-append (lines_of t b) r.events (events_from b w r.free)
+            ∙ ap (λ (xs : List ℕ). before ++ xs) (come ∙ ap (λ (xs : List ℕ). gap ++ xs) all)
+            ∙ sym (append_assoc before gap (run ++ lines_from (q + 48 * w * m)))
+            ∙ sym (append_assoc (before ++ gap) run (lines_from (q + 48 * w * m))),
+      )
+
+-- the first whole frames of a recording survive in its own bytes
+pub whole_survives : (t : TableRows) (records : List BusRecord) (m : ℕ) → IsRecordable t → 1 ≤ m → m ≤ whole_frames t records
+    → Survives t records (stream_of t records) 0 0 m
+whole_survives t records m h some few =
+    let w = t.frame.words in
+    let s = stream_of t records in
+    let last = frame_within s w (frame_place w (m - 1)) (next_frame t records h (m - 1) (omega arith)).position in
+    let before : m ≡ m - 1 + 1 = omega arith in
+    let end : 48 * w * m ≡ 48 * w * (m - 1) + 48 * w = ap (λ k. 48 * w * k) before ∙ omega arith in
+    record {
+      not_empty = some;
+      whole = omega arith;
+      stand = record { within = omega (arith, last, end); same = λ x low. let here : 0 + x ≡ 48 * w * 0 + x = omega arith in ap (bit_at s) here };
+      clear = λ p before. absurd (omega arith);
+    }

@@ -1,73 +1,77 @@
--- The word of a slot of a recording, by what is in the slot.
-use Rattle.std.proofs.Common.{◌≡◌, ℕ, ◌+◌, ◌-◌, ◌*◌, ◌%◌, ◌<◌, List, ap, ◌∙◌, arith}
+-- What is in a slot by its place, and the word of a slot of a recording by what is in it.
+use Rattle.std.proofs.Common.{◌≡◌, ℕ, ◌+◌, ◌-◌, ◌*◌, ◌%◌, ◌<◌, List, ap, ◌∙◌, arith, ◌/◌, ◌≤◌}
 use Rattle.std.proofs.lemmas.Nat.{mul-add-lt}
 use Rattle.fdr_bus.specs.declared.BusRecord.{BusRecord}
-use Rattle.fdr_frame.specs.declared.SlotKind.{SlotKind}
 use Rattle.fdr_frame.specs.declared.SlotKind.TheVariants.{Sync, Counter, Plain}
-use Rattle.fdr_frame.specs.Slots.{frame_of, subframe_of, sync_word, kind_of}
+use Rattle.fdr_frame.specs.Slots.{frame_of, subframe_of, sync_word, kind_of, is_sync, is_counter}
 use Rattle.fdr_sync.proofs.FrameSteps.{word_count_some}
-use Rattle.fdr_table.specs.Rows.{FrameRow, TableRows}
-use Rattle.fdr_sampler.specs.SlotWord.{data_word, word_with, slot_within, start_of, slot_word}
+use Rattle.fdr_table.specs.Rows.{TableRows}
+use Rattle.fdr_sampler.specs.SlotWord.{word_with, data_word, slot_within, start_of, slot_word}
 use Rattle.fdr_recon.specs.Rows.{counter_place}
 use Rattle.fdr_readout.proofs.Recordable.{IsRecordable}
-use Rattle.fdr_sampler.proofs.Superframes.{kind_of-superframe, remainder}
-use Rattle.fdr_readout.proofs.SlotPlaces.{kind_of-sync, subframe_of-first, kind_of-counter, frame_of-slot}
+use Rattle.fdr_sampler.proofs.Superframes.{kind_of-superframe, remainder, quotient}
+use Rattle.std.proofs.lemmas.Bool.{eq-eqb, ne_eqb, and_from, cond-true, cond-false}
 
--- a word for each kind
-word_of_kind : FrameRow → ℕ → ℕ → SlotKind → ℕ
-word_of_kind f k word kind = elim kind [
-  | Sync ↦ sync_word (subframe_of f.words k)
-  | Counter ↦ frame_of f.words k % 4096
-  | Plain ↦ word
-]
+-- the first slot of subframe m, counted from 0, has a sync word
+pub kind_of-sync : (w cword csub m : ℕ) → 0 < w → kind_of w cword csub (w * m) ≡ Sync
+kind_of-sync w cword csub m some =
+    let at : w * m ≡ w * m + 0 = omega arith in
+    let first : w * m % w + 1 ≡ 1 = ap (λ x. x % w + 1) at ∙ ap (λ x. x + 1) (remainder w m 0 some) in
+    cond-true (is_sync w (w * m)) _ _ (eq-eqb (w * m % w + 1) 1 first)
 
-word_by_kind : (f : FrameRow) (k word : ℕ) (kind : SlotKind) → kind_of f.words f.cword f.csub k ≡ kind → word_with f k word ≡ word_of_kind f k word kind
-unfolding word_of_kind
-word_by_kind f k word kind is = ap (word_of_kind f k word) is
+pub subframe_of-first : (w m : ℕ) → 0 < w → subframe_of w (w * m) ≡ m % 4 + 1
+subframe_of-first w m some =
+    let at : w * m ≡ w * m + 0 = omega arith in
+    ap (λ x. x / w % 4 + 1) at ∙ ap (λ x. x % 4 + 1) (quotient w m 0 some)
+
+-- the counter's slot of frame i
+pub kind_of-counter : (w cword csub i : ℕ) → 2 ≤ cword → cword ≤ w → 1 ≤ csub → csub ≤ 4
+    → kind_of w cword csub (4 * w * i + (w * (csub - 1) + (cword - 1))) ≡ Counter
+kind_of-counter w cword csub i cword_low cword_high csub_low csub_high =
+    let k = 4 * w * i + (w * (csub - 1) + (cword - 1)) in
+    let at : k ≡ w * (4 * i + (csub - 1)) + (cword - 1) = omega arith in
+    let word : k % w + 1 ≡ cword = ap (λ x. x % w + 1) at ∙ ap (λ x. x + 1) (remainder w (4 * i + (csub - 1)) (cword - 1) (omega arith)) ∙ omega arith in
+    let subframe : k / w % 4 + 1 ≡ csub = ap (λ x. x / w % 4 + 1) at ∙ ap (λ x. x % 4 + 1) (quotient w (4 * i + (csub - 1)) (cword - 1) (omega arith))
+    ∙ omega arith in
+    cond-false (is_sync w k) _ _ (ne_eqb (k % w + 1) 1 (λ first. omega arith))
+    ∙ cond-true (is_counter w cword csub k) _ _ (and_from _ _ (eq-eqb _ _ subframe) (eq-eqb _ _ word))
+
+pub frame_of-slot : (w i q : ℕ) → q < 4 * w → frame_of w (4 * w * i + q) ≡ i
+frame_of-slot w i q low = quotient (4 * w) i q low
+
+-- ---- the words of a recording
 
 -- the first word of subframe m, where subframes are counted from 0 through all frames
 pub slot_word-sync : (t : TableRows) (records : List BusRecord) (m : ℕ) → IsRecordable t → slot_word t records (t.frame.words * m) ≡ sync_word (m % 4 + 1)
-unfolding word_of_kind
 slot_word-sync t records m h =
     let f = t.frame in
-    let k = f.words * m in
-    let some = word_count_some t.frame.words h.words in
-    word_by_kind f k (data_word t records (start_of f.words k) (slot_within f.words k)) Sync (kind_of-sync f.words f.cword f.csub m some)
-    ∙ ap sync_word (subframe_of-first f.words m some)
+    let some = word_count_some f.words h.words in
+    rw (kind_of-sync f.words f.cword f.csub m some, word_with) (ap sync_word (subframe_of-first f.words m some))
 
 -- the counter's word lies within a frame
 pub counter_place-within : (t : TableRows) → IsRecordable t → counter_place t.frame < 4 * t.frame.words
 counter_place-within t h =
-    let w = t.frame.words in
-    let low = h.cword_low in
-    let high = h.cword_high in
-    let csub_low = h.csub_low in
-    let csub_high = h.csub_high in
-    let row : (t.frame.csub - 1) * w + (t.frame.cword - 1) < w * 4 = mul-add-lt (t.frame.csub - 1) w (t.frame.cword - 1) 4 (omega arith) (omega arith) in
-    omega arith
+    let f = t.frame in
+    let row = mul-add-lt (f.csub - 1) f.words (f.cword - 1) 4 (omega (arith, h.cword_low, h.cword_high, h.csub_low, h.csub_high))
+    (omega (arith, h.cword_low, h.cword_high, h.csub_low, h.csub_high)) in
+    omega (arith, row)
 
 -- the counter of frame i
 pub slot_word-counter : (t : TableRows) (records : List BusRecord) (i : ℕ) → IsRecordable t
     → slot_word t records (4 * t.frame.words * i + counter_place t.frame) ≡ i % 4096
-unfolding word_of_kind
 slot_word-counter t records i h =
     let f = t.frame in
-    let k = 4 * f.words * i + counter_place f in
-    word_by_kind f k (data_word t records (start_of f.words k) (slot_within f.words k)) Counter
-    (kind_of-counter f.words f.cword f.csub i h.cword_low h.cword_high h.csub_low h.csub_high)
-    ∙ ap (λ n. n % 4096) (frame_of-slot f.words i (counter_place f) (counter_place-within t h))
+    rw (kind_of-counter f.words f.cword f.csub i h.cword_low h.cword_high h.csub_low h.csub_high, word_with)
+    (ap (λ n. n % 4096) (frame_of-slot f.words i (counter_place f) (counter_place-within t h)))
 
 -- slot x of superframe q, where neither a sync word nor the counter stands
 pub slot_word-plain : (t : TableRows) (records : List BusRecord) (q x : ℕ) → IsRecordable t → x < 64 * t.frame.words
     → kind_of t.frame.words t.frame.cword t.frame.csub x ≡ Plain →
     slot_word t records (64 * t.frame.words * q + x) ≡ data_word t records (64 * t.frame.words * q) x
-unfolding word_of_kind
 slot_word-plain t records q x h low plain =
     let f = t.frame in
     let k = 64 * f.words * q + x in
     let slot : slot_within f.words k ≡ x = remainder (64 * f.words) q x low in
     let start : start_of f.words k ≡ 64 * f.words * q = ap (λ s. k - s) slot ∙ omega arith in
-    word_by_kind f k (data_word t records (start_of f.words k) (slot_within f.words k)) Plain
-    (kind_of-superframe f.words f.cword f.csub q x (word_count_some f.words h.words) ∙ plain)
-    ∙ ap (λ s. data_word t records s (slot_within f.words k)) start
-    ∙ ap (data_word t records (64 * f.words * q)) slot
+    let kind = kind_of-superframe f.words f.cword f.csub q x (word_count_some f.words h.words) ∙ plain in
+    rw (kind, word_with) (ap (λ s. data_word t records s (slot_within f.words k)) start ∙ ap (data_word t records (64 * f.words * q)) slot)

@@ -1,14 +1,15 @@
--- The frames of a recording's bytes: one after another from the first bit on, and none after the last whole one.
-use Rattle.std.proofs.Common.{◌≡◌, ℕ, zero, suc, ◌+◌, ◌-◌, ◌*◌, ◌%◌, ◌<◌, ◌≤◌, List, [], ◌∷◌, ◌++◌, map, length, sym, ap, ◌∙◌, subst, arith}
+-- The words of a recording's bytes, and its frames: one after another from the first bit on, and none after the last whole one.
+use Rattle.std.proofs.Common.{◌≡◌, ℕ, zero, suc, ◌+◌, ◌-◌, ◌*◌, ◌%◌, ◌<◌, ◌≤◌, List, [], map, length, sym, ap, ◌∙◌, subst, add-one, arith, ◌/◌, ◌^◌}
+use Rattle.std.proofs.Common.{slice_index}
 use Rattle.std.specs.List.{range_with_len}
 use Rattle.std.proofs.lemmas.Nat.{mod_below, mul-le, div-add-mod'}
 use Rattle.std.proofs.lemmas.Bool.{and_from, eq-eqb}
-use Rattle.std.proofs.lemmas.List.FromFn.{map-range_with_len_more}
-use Rattle.fdr_bits.specs.Bits.{bits_in, word_at}
+use Rattle.std.proofs.lemmas.List.FromFn.{map-range_with_len_more, get_or-map-range_with_len}
+use Rattle.fdr_bits.specs.Bits.{bits_in, word_at, bit_at}
 use Rattle.fdr_bus.specs.declared.BusRecord.{BusRecord}
 use Rattle.fdr_frame.specs.Slots.{sync_word}
 use Rattle.fdr_table.specs.Rows.{TableRows}
-use Rattle.fdr_sampler.specs.Stream.{stream_words, stream_of}
+use Rattle.fdr_sampler.specs.Stream.{stream_words, stream_of, slot_count, packed}
 use Rattle.fdr_sync.specs.Frames.{IsFramePosition, IsFirstFrameFrom, HasNoFrameFrom}
 use Rattle.fdr_sync.proofs.FrameLemmas.{frame_within, frame_by_syncs}
 use Rattle.fdr_sync.proofs.FrameSteps.{word_count_some}
@@ -16,7 +17,50 @@ use Rattle.fdr_readout.proofs.Recordable.{IsRecordable}
 use Rattle.fdr_readout.specs.SampledRows.{whole_frames}
 use Rattle.fdr_readout.proofs.SoFarLemmas.{SoFar, SoFar-none, so_far_next}
 use Rattle.fdr_readout.proofs.SlotKinds.{slot_word-sync}
-use Rattle.fdr_readout.proofs.RecordedWords.{word_at-stream, stream-bits}
+use Rattle.std.specs.Prelude.{All}
+use Rattle.fdr_bus.specs.Records.{time_of}
+use Rattle.fdr_sampler.specs.SlotWord.{slot_word}
+use Rattle.fdr_sampler.proofs.Packing.{length-packed, IsWord, bit_at-packed}
+use Rattle.fdr_sampler.proofs.Streaming.{slot_words-below}
+use Rattle.fdr_sampler.proofs.StreamWords.{length-stream_words}
+use Rattle.std.specs.Int.{bit_at as nat_bit}
+use Rattle.std.proofs.Math.Nat.{mod-eq_of_lt}
+use Rattle.fdr_bits.proofs.WordLemmas.{number_of-same, number_of-bits}
+
+-- a word's bits are in the bytes from bit 12 k on
+word_bits : (words : List ℕ) (k j : ℕ) → k < length words → j < 12 → bit_at (packed words) (12 * k + j) ≡ nat_bit (slice_index words k) j
+word_bits words k j within few =
+    let at : (12 * k + j) / 12 ≡ k = omega arith in
+    let bit : (12 * k + j) % 12 ≡ j = omega arith in
+    bit_at-packed words (12 * k + j) (omega (arith, length-packed words))
+    ∙ ap (λ x. slice_index words x / 2 ^ ((12 * k + j) % 12) % 2) at ∙ ap (λ x. slice_index words k / 2 ^ x % 2) bit
+
+-- word k begins at bit 12 k
+pub word_at-packed : (words : List ℕ) (k : ℕ) → All IsWord words → k < length words → word_at (packed words) (12 * k) ≡ slice_index words k
+unfolding word_at
+word_at-packed words k fit within =
+    number_of-same (λ j. bit_at (packed words) (12 * k + j)) (nat_bit (slice_index words k)) 12 (λ j few. word_bits words k j within few)
+    ∙ number_of-bits (slice_index words k) 12 ∙ mod-eq_of_lt (fit k 0 within)
+
+-- ---- the words in the bytes
+
+-- word k of a recording begins at bit 12 k
+pub word_at-stream : (t : TableRows) (records : List BusRecord) (k : ℕ) → k < length (stream_words t records) →
+    word_at (stream_of t records) (12 * k) ≡ slot_word t records k
+word_at-stream t records k within =
+    let n = slot_count t.frame.words (time_of records) in
+    let low : k < n = omega (arith, length-stream_words t records) in
+    word_at-packed (stream_words t records) k (slot_words-below t records n) within
+    ∙ get_or-map-range_with_len (slot_word t records) 0 n k k 0 low (omega arith)
+
+-- at most four bits follow the words
+pub stream-bits : (t : TableRows) (records : List BusRecord) →
+    (12 * length (stream_words t records) ≤ bits_in (stream_of t records)) × (bits_in (stream_of t records) ≤ 12 * length (stream_words t records) + 4)
+stream-bits t records =
+    let bytes = length-packed (stream_words t records) in
+    (omega (arith, bytes), omega (arith, bytes))
+
+-- ---- the frames
 
 -- where frame j begins
 abbrev pub frame_place : ℕ → ℕ → ℕ
@@ -93,17 +137,12 @@ module _ (t : TableRows) (records : List BusRecord) (h : IsRecordable t) where
   pub frames_so_far : (j : ℕ) → j ≤ whole_frames t records
       → SoFar (stream_of t records) t.frame.words (frame_place t.frame.words j) (frame_places t.frame.words j)
   frames_so_far zero early =
-      let w = t.frame.words in
-      let start : 0 ≡ 48 * w * 0 = omega arith in
-      subst (λ free. SoFar (stream_of t records) w free []) start (SoFar-none (stream_of t records) w)
+      let start : 0 ≡ 48 * t.frame.words * 0 = omega arith in
+      subst (λ free. SoFar (stream_of t records) t.frame.words free []) start (SoFar-none (stream_of t records) t.frame.words)
   frames_so_far (suc j) early =
       let w = t.frame.words in
-      let b = stream_of t records in
-      let xs = frame_places w j in
       let next : 48 * w * j + 48 * w ≡ 48 * w * suc j = omega arith in
-      let one_more : j + 1 ≡ suc j = omega arith in
-      let listed : xs ++ frame_place w j ∷ [] ≡ frame_places w (suc j) =
-      sym (map-range_with_len_more (frame_place w) 0 j j (omega arith)) ∙ ap (frame_places w) one_more in
-      subst (λ ys. SoFar b w (48 * w * suc j) ys) listed
-      (subst (λ free. SoFar b w free (xs ++ frame_place w j ∷ [])) next
-      (so_far_next b w (frame_place w j) (frame_place w j) xs some_words (frames_so_far j (omega arith)) (next_frame j (omega arith))))
+      subst (λ free. SoFar (stream_of t records) w free (frame_places w (suc j))) next
+      (subst (SoFar (stream_of t records) w (48 * w * j + 48 * w)) (sym (rw add-one at (map-range_with_len_more (frame_place w) 0 j j (omega arith))))
+      (so_far_next (stream_of t records) w (frame_place w j) (frame_place w j) (frame_places w j) some_words (frames_so_far j (omega arith))
+      (next_frame j (omega arith))))

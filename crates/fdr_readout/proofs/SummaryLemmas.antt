@@ -1,5 +1,5 @@
 -- The summary of bits is what is counted of their entries.
-use Rattle.std.proofs.Common.{◌≡◌, ℕ, ◌+◌, ◌-◌, ◌*◌, ◌%◌, ◌^◌, ◌<◌, ◌≤◌, true, false, cond, List, [], ◌∷◌, ◌++◌, length, map, refl, ap, ◌∙◌}
+use Rattle.std.proofs.Common.{◌≡◌, ℕ, ◌+◌, ◌-◌, ◌*◌, ◌%◌, ◌^◌, ◌<◌, ◌≤◌, true, false, cond, List, [], ◌∷◌, length, map, refl, ap, ◌∙◌}
 use Rattle.std.proofs.Common.{arith, leb, length-append, suc}
 use Rattle.std.proofs.lemmas.List.{length-map}
 use Rattle.std.proofs.lemmas.List.FromFn.{length-range_with_len}
@@ -21,9 +21,9 @@ use Rattle.fdr_layout.proofs.Few.{ending_few, samples_few}
 use Rattle.fdr_recon.specs.declared.Row.{Row}
 use Rattle.fdr_recon.specs.Rows.{ReadFrame, rows_of_frame, rows_looked_at, row_of, frame_at, cycle_of_frame}
 use Rattle.fdr_readout.specs.declared.tally.Summary.{Summary}
-use Rattle.fdr_readout.specs.Listing.{rows_at, is_frame_linked, accepted_to, frame_read}
-use Rattle.fdr_readout.specs.Entries.{Entry, FrameEntry, RowEntry, entries_at, entries_of, row_of_entry, is_frame_entry}
-use Rattle.fdr_readout.specs.Summary.{Tallies, no_summary, rows_among, value_bits, listed_rows, summary_of}
+use Rattle.fdr_readout.specs.Listing.{rows_at, accepted_to, frame_read}
+use Rattle.fdr_readout.specs.Entries.{Entry, RowEntry, entries_at, entries_of, row_of_entry, is_frame_entry}
+use Rattle.fdr_readout.specs.Summary.{Tallies, no_summary, rows_among, value_bits, listed_rows}
 
 -- ---- what is counted of entries
 
@@ -41,8 +41,7 @@ unfolding entries_at
 rows_of_events t b [] = refl
 rows_of_events t b (Frame a ∷ es) =
     filter_map-append row_of_entry (map RowEntry (rows_at t b a)) (flat_map (entries_at t b) es)
-    ∙ ap (λ (front : List Row). front ++ rows_among (flat_map (entries_at t b) es)) (rows_among_rows (rows_at t b a))
-    ∙ ap (λ (rest : List Row). rows_at t b a ++ rest) (rows_of_events t b es)
+    ∙ rw (rows_among_rows (rows_at t b a), rows_of_events t b es) refl
 rows_of_events t b (Gap a n ∷ es) = rows_of_events t b es
 
 frames_of_entries : (t : TableRows) (b : List ℕ) (es : List Event)
@@ -50,11 +49,8 @@ frames_of_entries : (t : TableRows) (b : List ℕ) (es : List Event)
 unfolding entries_at
 frames_of_entries t b [] = refl
 frames_of_entries t b (Frame a ∷ es) =
-    ap (λ (entries : List Entry). length (FrameEntry (is_frame_linked t b a) ∷ entries)) (
-    filter-append is_frame_entry (map RowEntry (rows_at t b a)) (flat_map (entries_at t b) es)
-    ∙ ap (λ (front : List Entry). front ++ filter is_frame_entry (flat_map (entries_at t b) es)) (no_frame_among_rows (rows_at t b a))
-    )
-    ∙ ap (λ n. suc n) (frames_of_entries t b es)
+    rw (filter-append is_frame_entry (map RowEntry (rows_at t b a)) (flat_map (entries_at t b) es), no_frame_among_rows (rows_at t b a))
+    (ap (λ n. suc n) (frames_of_entries t b es))
 frames_of_entries t b (Gap a n ∷ es) = frames_of_entries t b es
 
 pub rows_are : (t : TableRows) (b : List ℕ) → rows_among (entries_of t b) ≡ listed_rows t b
@@ -80,49 +76,29 @@ pub few_frames : (b : List ℕ) (w : ℕ) → length (accepted_frames b w) ≤ b
 unfolding accepted_from
 few_frames b w =
     let all = range_with_len 0 (bits_in b) in
-    omega (
-      arith,
-      few_chosen (48 * w) 0 (frame_positions b w),
-      length-filter (is_frame_position b w) all,
-      count_by-le-length (is_frame_position b w) all,
-      length-range_with_len 0 (bits_in b),
-    )
+    let test = is_frame_position b w in
+    omega (arith, few_chosen (48 * w) 0 (frame_positions b w), length-filter test all, count_by-le-length test all, length-range_with_len 0 (bits_in b))
 
 few_rows_of_frame : (t : TableRows) (frames : List ReadFrame) (i : ℕ) → IsSound t → length (rows_of_frame t frames i) ≤ 262144
 unfolding rows_of_frame rows_looked_at ending_in ending_among
 few_rows_of_frame t frames i sound =
     let cycle = cycle_of_frame t.frame (frame_at frames i).words in
-    omega (
-      arith,
-      filter_map_fewer (λ (r : Option Row). r) (rows_looked_at t frames i),
-      length-map (ending_in t cycle) (row_of t frames i),
-      ending_few t.frame.words (samples t) cycle,
-      samples_few t sound,
-    )
+    let fewer = filter_map_fewer (λ (r : Option Row). r) (rows_looked_at t frames i) in
+    omega (arith, fewer, length-map (ending_in t cycle) (row_of t frames i), ending_few t.frame.words (samples t) cycle, samples_few t sound)
 
 few_rows : (t : TableRows) (b : List ℕ) (xs : List ℕ) → IsSound t → length (flat_map (rows_at t b) xs) ≤ 262144 * length xs
 unfolding rows_at
 few_rows t b [] sound = omega arith
 few_rows t b (x ∷ xs) sound =
     let before = accepted_to b t.frame.words x in
-    omega (
-      arith,
-      length-append (rows_at t b x) (flat_map (rows_at t b) xs),
-      few_rows_of_frame t (map (frame_read b t.frame.words) before) (length before - 1) sound,
-      few_rows t b xs sound,
-    )
+    let here = few_rows_of_frame t (map (frame_read b t.frame.words) before) (length before - 1) sound in
+    omega (arith, length-append (rows_at t b x) (flat_map (rows_at t b) xs), here, few_rows t b xs sound)
 
 pub few_listed : (t : TableRows) (b : List ℕ) → IsSound t → length (listed_rows t b) ≤ 262144 * length (accepted_frames b t.frame.words)
 unfolding listed_rows
 few_listed t b sound = few_rows t b (accepted_frames b t.frame.words) sound
 
 -- ---- the summary
-
-same_summary : (a b : Summary) → a.frames ≡ b.frames → a.rows ≡ b.rows → a.sum ≡ b.sum → a ≡ b
-same_summary a b frames rows sum =
-    ap (λ (n : ℕ). record { frames = n; rows = a.rows; sum = a.sum }) frames
-    ∙ ap (λ (n : ℕ). record { frames = b.frames; rows = n; sum = a.sum }) rows
-    ∙ ap (λ (n : ℕ). record { frames = b.frames; rows = b.rows; sum = n }) sum
 
 no_wrap : (now n : ℕ) → now < 2 ^ 64 → n < 2 ^ 64 → now % 2 ^ 64 ≡ (0 + n) % 2 ^ 64 → now ≡ n
 no_wrap now n small few e = omega arith
@@ -136,17 +112,8 @@ pub counted_is : (entries : List Entry) (frames : ℕ) (rows : List Row) (now : 
     → now ≡ record { frames = frames; rows = length rows; sum = sum_by value_bits rows % 2 ^ 64 }
 counted_is entries frames rows now frames_are rows_are few_frames few_rows h =
     let fits = h.fits (record { frames = omega arith; rows = omega arith; sum = omega arith }) in
-    same_summary now (record { frames = frames; rows = length rows; sum = sum_by value_bits rows % 2 ^ 64 })
-    (no_wrap now.frames frames fits.frames few_frames (rw frames_are at h.frames))
-    (no_wrap now.rows (length rows) fits.rows few_rows (rw rows_are at h.rows))
-    (last_bits now.sum (sum_by value_bits rows) fits.sum (rw rows_are at h.sum))
-
--- of bits it is the summary
-pub summary_is : (t : TableRows) (b : List ℕ) (now : Summary) → IsSound t → length b ≤ 2 ^ 32
-    → Tallies no_summary now (entries_of t b) → now ≡ summary_of t b
-unfolding summary_of
-summary_is t b now sound short h =
-    let accepted = accepted_frames b t.frame.words in
-    let few : length accepted ≤ 2 ^ 35 = omega (arith, few_frames b t.frame.words) in
-    let few_all : length (listed_rows t b) < 2 ^ 64 = omega (arith, few_listed t b sound) in
-    counted_is (entries_of t b) (length accepted) (listed_rows t b) now (frames_are t b) (rows_are t b) (omega arith) few_all h
+    rw (
+      ← no_wrap now.frames frames fits.frames few_frames (rw frames_are at h.frames),
+      ← no_wrap now.rows (length rows) fits.rows few_rows (rw rows_are at h.rows),
+      ← last_bits now.sum (sum_by value_bits rows) fits.sum (rw rows_are at h.sum),
+    ) refl

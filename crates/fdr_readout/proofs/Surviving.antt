@@ -1,21 +1,17 @@
 -- What survives of a recording is listed.
-use Rattle.std.proofs.Common.{◌≡◌, ℕ, ◌+◌, ◌-◌, ◌*◌, ◌%◌, ◌<◌, ◌≤◌, List, sym, ap, ◌∙◌, arith}
+use Rattle.std.proofs.Common.{◌≡◌, ℕ, ◌+◌, ◌*◌, ◌%◌, ◌<◌, ◌≤◌, List, sym, ap, ◌∙◌}
 use Rattle.std.specs.List.{flat_map}
-use Rattle.fdr_bits.specs.Bits.{bit_at}
 use Rattle.fdr_bus.specs.declared.BusRecord.{BusRecord}
 use Rattle.fdr_table.specs.Ranges.{IsInRange}
 use Rattle.fdr_table.specs.Rows.{TableRows}
 use Rattle.fdr_check.specs.Soundness.{IsSound}
 use Rattle.fdr_sampler.specs.Stream.{stream_of}
-use Rattle.fdr_sync.proofs.FrameLemmas.{frame_within}
 use Rattle.fdr_readout.specs.Listing.{rows_at, row_line_of}
 use Rattle.fdr_readout.specs.SampledRows.{whole_frames}
 use Rattle.fdr_readout.specs.Survival.{StandIn, IsClearBefore, Survives, AreListed, AreInBoth, sampled_since, lines_at}
 use Rattle.fdr_readout.proofs.Among.{among_map}
 use Rattle.fdr_readout.proofs.SoundTables.{sound_recordable}
-use Rattle.fdr_readout.proofs.StreamFrames.{frame_place, next_frame}
-use Rattle.fdr_readout.proofs.RunRows.{run_in_a_row, run_rows, run_all_rows}
-use Rattle.fdr_readout.proofs.RunLines.{run_lines}
+use Rattle.fdr_readout.proofs.RunFrames.{run_in_a_row, run_rows, run_all_rows, run_lines, whole_survives}
 
 -- a surviving run is listed, with the rows that were sampled
 pub surviving_run_listed : (t : TableRows) (records : List BusRecord) (b : List ℕ) (q j m : ℕ) → IsInRange t → IsSound t → Survives t records b q j m →
@@ -32,21 +28,7 @@ surviving_run_listed t records b q j m range sound survives =
 -- the first whole frames of a recording survive in its own bytes
 pub survives_itself : (t : TableRows) (records : List BusRecord) (m : ℕ) → IsInRange t → IsSound t → 1 ≤ m → m ≤ whole_frames t records →
     Survives t records (stream_of t records) 0 0 m
-survives_itself t records m range sound some few =
-    let w = t.frame.words in
-    let s = stream_of t records in
-    let last = frame_within s w (frame_place w (m - 1)) (next_frame t records (sound_recordable t range sound) (m - 1) (omega arith)).position in
-    let before : m ≡ m - 1 + 1 = omega arith in
-    let end : 48 * w * m ≡ 48 * w * (m - 1) + 48 * w = ap (λ k. 48 * w * k) before ∙ omega arith in
-    record {
-      not_empty = some;
-      whole = omega arith;
-      stand = record {
-        within = omega (arith, last, end);
-        same = λ x low. let here : 0 + x ≡ 48 * w * 0 + x = omega arith in ap (bit_at s) here;
-      };
-      clear = λ p before. absurd (omega arith);
-    }
+survives_itself t records m range sound some few = whole_survives t records m (sound_recordable t range sound) some few
 
 -- frames survive wherever their bits stand, unless another frame reaches into them there
 pub survives_elsewhere : (t : TableRows) (records : List BusRecord) (b c : List ℕ) (q r j m : ℕ) → Survives t records b q j m →

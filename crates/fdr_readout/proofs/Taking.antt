@@ -1,17 +1,17 @@
 -- What a taker took, piece by piece.
-use Rattle.std.proofs.Common.{◌≡◌, ℕ, List, [], ◌++◌, Result, Ok, Err, sym, ap, ◌∙◌, arith, append-nil}
+use Rattle.std.proofs.Common.{refl, ◌≡◌, ℕ, List, [], ◌++◌, Result, Ok, Err, sym, ap, ◌∙◌, arith, append-nil}
 use Rattle.std.specs.Prelude.{OnOk}
 use Rattle.std.specs.List.{flat_map}
 use Rattle.std.proofs.lemmas.List.Concat.{flat_map-append}
 use Rattle.fdr_frame.specs.WordCount.{IsWordCount}
 use Rattle.fdr_resync.proofs.Growing.{events_extend}
-use Rattle.fdr_sync.specs.Events.{decided_events, events_of}
+use Rattle.fdr_sync.specs.Events.{decided_events}
 use Rattle.fdr_sync.proofs.FrameLemmas.{none_in_few_bytes}
 use Rattle.fdr_sync.proofs.EventSteps.{decided_from_none, events_from_none}
 use Rattle.fdr_sync.proofs.FrameSteps.{word_count_some}
 use Rattle.fdr_table.specs.Rows.{TableRows}
 use Rattle.fdr_readout.specs.declared.events.EventReader.{EventReader}
-use Rattle.fdr_readout.specs.Listing.{decided_listing, lines_of, listing_of}
+use Rattle.fdr_readout.specs.Listing.{decided_listing, lines_of}
 use Rattle.fdr_readout.specs.Entries.{Entry, entries_at, entries_of, entry_lines}
 use Rattle.fdr_readout.specs.Reading.{ReadsEvents, entries_in, decided_past}
 use Rattle.fdr_readout.specs.Taken.{HasTaken}
@@ -40,18 +40,6 @@ lines_of_taken t bytes entries decided =
     ap (flat_map (entry_lines t)) (sym (decided []) ∙ ap (λ b. entries_in t b (decided_events bytes t.frame.words)) (append-nil bytes))
     ∙ lines_of_events t bytes (decided_events bytes t.frame.words)
 
--- the decided lines are the first of all
-pub decided_first : (t : TableRows) (bytes : List ℕ) → IsWordCount t.frame.words
-    → (rest : List ℕ) × (listing_of t bytes ≡ decided_listing t bytes ++ rest)
-unfolding decided_listing listing_of
-decided_first t bytes count =
-    let w = t.frame.words in
-    let last = events_extend bytes [] w (word_count_some w count) in
-    let all : events_of bytes w ≡ decided_events bytes w ++ last.0 = ap (λ b. events_of b w) (sym (append-nil bytes)) ∙ last.1 in (
-      flat_map (lines_of t bytes) last.0,
-      ap (flat_map (lines_of t bytes)) all ∙ flat_map-append (lines_of t bytes) (decided_events bytes w) last.0,
-    )
-
 -- nothing is decided of no bytes
 pub nothing_decided : (t : TableRows) → IsWordCount t.frame.words → decided_listing t [] ≡ []
 unfolding decided_listing
@@ -73,8 +61,5 @@ unfolding entries_of
 taken_first took t r bytes more a p b q had =
     let w = t.frame.words in
     let all = bytes ++ more in
-    let last = events_extend bytes more w (word_count_some w had.reads.count) in (
-      entries_in t all last.0,
-      ap (entries_in t all) last.1 ∙ flat_map-append (entries_at t all) (decided_events bytes w) last.0
-          ∙ ap (λ (front : List Entry). front ++ entries_in t all last.0) (had.decided more),
-    )
+    let last = events_extend bytes more w (word_count_some w had.reads.count) in
+    (entries_in t all last.0, rw last.1 (flat_map-append (entries_at t all) (decided_events bytes w) last.0 ∙ rw (had.decided more) refl))

@@ -1,5 +1,5 @@
 -- The line of a row out of texts that are ready.
-use Rattle.std.proofs.Common.{◌≡◌, ℕ, ◌+◌, ◌-◌, ◌*◌, ◌/◌, ◌%◌, ◌<◌, ◌≤◌, List, get_or, map, ap, sym, ◌∙◌, arith, zero-add}
+use Rattle.std.proofs.Common.{refl, ◌≡◌, ℕ, ◌+◌, ◌-◌, ◌*◌, ◌/◌, ◌%◌, ◌<◌, ◌≤◌, List, get_or, map, ap, sym, ◌∙◌, arith, zero-add}
 use Rattle.std.specs.List.{range_with_len}
 use Rattle.std.proofs.lemmas.List.FromFn.{get_or-map-range_with_len}
 use Rattle.fdr_listing.specs.Text.{row_line_text, row_place_text, row_start_text, row_text}
@@ -16,24 +16,20 @@ place_text_is : (subframe word : ℕ) → 1 ≤ subframe → 1 ≤ word → word
 place_text_is subframe word low first last =
     let s : (1024 * (subframe - 1) + (word - 1)) / 1024 + 1 ≡ subframe = omega arith in
     let v : (1024 * (subframe - 1) + (word - 1)) % 1024 + 1 ≡ word = omega arith in
-    ap (λ n. row_place_text n ((1024 * (subframe - 1) + (word - 1)) % 1024 + 1)) s ∙ ap (λ n. row_place_text subframe n) v
+    rw (s, v) refl
 
--- the text that is among the ready ones for that place
+-- what is among ready texts
+pub ready_text : (f : ℕ → List ℕ) (texts : List (List ℕ)) (n : ℕ) (text : List ℕ) → texts ≡ map f (range_with_len 0 4096) → n < 4096
+    → text ≡ get_or texts n text → text ≡ f n
+ready_text f texts n text ready within at =
+    at ∙ ap (λ (ys : List (List ℕ)). get_or ys n text) ready ∙ get_or-map-range_with_len f 0 4096 n n text within (zero-add n)
+
+-- the text of the place of a subframe and a word
 pub ready_at : (texts : List (List ℕ)) (subframe word : ℕ) (text : List ℕ) → texts ≡ map place_text (range_with_len 0 4096)
     → 1 ≤ subframe → subframe ≤ 4 → 1 ≤ word → word ≤ 1024 → text ≡ get_or texts (1024 * (subframe - 1) + (word - 1)) text
     → text ≡ row_place_text subframe word
 ready_at texts subframe word text ready low high first last at =
-    let n = 1024 * (subframe - 1) + (word - 1) in
-    let within : n < 4096 = omega arith in
-    at ∙ ap (λ (ys : List (List ℕ)). get_or ys n text) ready ∙ get_or-map-range_with_len place_text 0 4096 n n text within (zero-add n)
-    ∙ place_text_is subframe word low first last
-
--- what is among the ready starts for that counter
-pub start_at : (starts : List (List ℕ)) (counter : ℕ) (start : List ℕ) → starts ≡ map row_start_text (range_with_len 0 4096) → counter < 4096
-    → start ≡ get_or starts counter start → start ≡ row_start_text counter
-start_at starts counter start ready within at =
-    at ∙ ap (λ (ys : List (List ℕ)). get_or ys counter start) ready
-    ∙ get_or-map-range_with_len row_start_text 0 4096 counter counter start within (zero-add counter)
+    ready_text place_text texts (1024 * (subframe - 1) + (word - 1)) text ready (omega arith) at ∙ place_text_is subframe word low first last
 
 pub written_row : (t : TableRows) (r : Row) (p : ParamRow) (start place : List ℕ) → param_at t.params r.param ≡ p
     → start ≡ row_start_text r.counter → place ≡ row_place_text r.subframe r.word

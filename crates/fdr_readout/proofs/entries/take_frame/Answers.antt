@@ -1,10 +1,9 @@
-use Rattle.std.proofs.Common.{◌≡◌, ◌+◌, ◌-◌, ◌<◌, [], ◌∷◌, length, take, drop, ◌∙◌, arith}
+use Rattle.std.proofs.Common.{◌≡◌, ◌+◌, ◌-◌, ◌<◌, length, take, drop, ◌∙◌, arith}
 use Rattle.std.specs.List.{flat_map}
 use Rattle.std.proofs.lemmas.List.{take_all}
 use Rattle.std.proofs.lemmas.Result.{err_from_is_err_and}
-use Rattle.fdr_recon.specs.Past.{is_linked_at}
 use Rattle.fdr_recon.specs.Rows.{rows_looked_at}
-use Rattle.fdr_readout.specs.Entries.{FrameEntry, row_entries, last_frame_entries}
+use Rattle.fdr_readout.specs.Entries.{row_entries, last_frame_entries}
 use Rattle.fdr_readout.proofs.EntryLemmas.{flat_map_next, flat_map_around}
 use Rattle.fdr_readout.proofs.entries.take_frame.Goals as goal
 

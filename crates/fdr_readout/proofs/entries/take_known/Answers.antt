@@ -32,37 +32,25 @@ next-requires g c =
     let inv = c.loop-event.invariant.taken c.requires.0 c.requires.1 in
     (c.args.table.now, scanner_with_events c.requires.0 inv.0, inv.2)
 
--- what is read with the event that comes next
-read_with : (g : Over) (c : In-Some g) (past : ScannerPast) (reads : ReadsEvents c.args.table.now c.args.reader.now past)
-    → ReadsEvents c.args.table.now c.next.new.self
-    (scanner_with_events (scanner_with_events past (c.loop-event.invariant.taken past reads).0) (answered_event c.in-Some.event ∷ []))
-read_with g c past reads =
-    let inv = c.loop-event.invariant.taken past reads in
-    c.in-Some.ensures.stands c.args.table.now (scanner_with_events past inv.0) inv.2
+module _ (g : Over) (c : In-Some g) (past : ScannerPast) (reads : ReadsEvents c.args.table.now c.args.reader.now past) where
+  -- what is read with the event that comes next
+  read_with : ReadsEvents c.args.table.now c.next.new.self
+      (scanner_with_events (scanner_with_events past (c.loop-event.invariant.taken past reads).0) (answered_event c.in-Some.event ∷ []))
+  read_with = let inv = c.loop-event.invariant.taken past reads in c.in-Some.ensures.stands c.args.table.now (scanner_with_events past inv.0) inv.2
 
--- where it is a frame, one was read
-frame_read : (g : Over) (c : In-Some g) (past : ScannerPast) (reads : ReadsEvents c.args.table.now c.args.reader.now past)
-    → IsSome (frame_of_event (answered_event c.in-Some.event)) → 0 < length (read_with g c past reads).read
-frame_read g c past reads frame =
-    let inv = c.loop-event.invariant.taken past reads in
-    let now = read_with g c past reads in
-    some_read (past.bytes ++ []) c.args.table.now.frame.words (past.taken ++ inv.0) (answered_event c.in-Some.event) now.read
-    frame (now.as_read [] (λ finished. refl))
+  -- where it is a frame, one was read, and so one was with those of other bytes
+  frame_read : IsSome (frame_of_event (answered_event c.in-Some.event)) → 0 < length read_with.read
+  frame_read frame =
+      some_read (past.bytes ++ []) c.args.table.now.frame.words (past.taken ++ (c.loop-event.invariant.taken past reads).0) (answered_event c.in-Some.event)
+      read_with.read frame (read_with.as_read [] (λ finished. refl))
 
--- and so one was with those of other bytes
-frame_read_last : (g : Over) (c : In-Some g) (past : ScannerPast) (reads : ReadsEvents c.args.table.now c.args.reader.now past)
-    → IsSome (answered_frame (Some c.in-Some.event)) → 0 < length ((read_with g c past reads).earlier ++ (read_with g c past reads).read)
-frame_read_last g c past reads frame =
-    let now = read_with g c past reads in
-    omega (arith, length-append now.earlier now.read, frame_read g c past reads (subst IsSome (frame_answered c.in-Some.event) frame))
+  frame_read_last : IsSome (answered_frame (Some c.in-Some.event)) → 0 < length (read_with.earlier ++ read_with.read)
+  frame_read_last frame = omega (arith, length-append read_with.earlier read_with.read, frame_read (subst IsSome (frame_answered c.in-Some.event) frame))
 
--- the entries of the event are those of these bytes
-entries_alone : (g : Over) (c : In-Some g) (past : ScannerPast) (reads : ReadsEvents c.args.table.now c.args.reader.now past)
-    → event_entries c.args.table.now ((read_with g c past reads).earlier ++ (read_with g c past reads).read) (answered_event c.in-Some.event)
-    ≡ event_entries c.args.table.now (read_with g c past reads).read (answered_event c.in-Some.event)
-entries_alone g c past reads =
-    let now = read_with g c past reads in
-    entries_apart c.args.table.now now.earlier now.read (answered_event c.in-Some.event) reads.count now.apart (frame_read g c past reads)
+  -- the entries of the event are those of these bytes
+  entries_alone : event_entries c.args.table.now (read_with.earlier ++ read_with.read) (answered_event c.in-Some.event)
+      ≡ event_entries c.args.table.now read_with.read (answered_event c.in-Some.event)
+  entries_alone = entries_apart c.args.table.now read_with.earlier read_with.read (answered_event c.in-Some.event) reads.count read_with.apart frame_read
 
 pub take_event-requires : goal.take_event-requires
 take_event-requires g c =
@@ -76,7 +64,6 @@ loop-event-preserved g c = record {
       let t = c.args.table.now in
       let inv = c.loop-event.invariant.taken past reads in
       let e = answered_event c.in-Some.event in
-      let mid = scanner_with_events past inv.0 in
       let at = (goal.at.loop-event-preserved g c).In-Some in
       let now = read_with g at past reads in
       let took = c.in_ok-take_event.ensures.all (now.earlier ++ now.read) now.frames (frame_read_last g at past reads) in (
@@ -85,7 +72,7 @@ loop-event-preserved g c = record {
         subst (λ es. ReadsEvents t c.next.new.self (record past { taken = es })) (append_assoc past.taken inv.0 (e ∷ [])) now,
         g.met.T.Taker.laws.then _ _ _ _ _ _ _ _ _ inv.3 (rw (entries_alone g at past reads) at took),
         λ more may.
-            let ahead = c.in-Some.ensures.ahead t mid more inv.2 may in
+            let ahead = c.in-Some.ensures.ahead t (scanner_with_events past inv.0) more inv.2 may in
             entries_step t (past.bytes ++ more) past.taken inv.0 e ahead.0 inv.1 now.read reads.count
             (ap (events_of (past.bytes ++ more)) (sym reads.words) ∙ ahead.1) (now.as_read more may) (inv.4 more may),
       );
@@ -99,7 +86,6 @@ returns-in_err-take_event-clause-part g c = λ past reads.
     let t = c.args.table.now in
     let inv = c.loop-event.invariant.taken past reads in
     let e = answered_event c.in-Some.event in
-    let mid = scanner_with_events past inv.0 in
     let at = (goal.at.returns-in_err-take_event-clause-part g c).In-Some in
     let now = read_with g at past reads in
     let failed = c.in_err-take_event.ensures.part (now.earlier ++ now.read) now.frames (frame_read_last g at past reads) in
@@ -108,7 +94,7 @@ returns-in_err-take_event-clause-part g c = λ past reads.
       inv.1 ++ event_entries t now.read e,
       g.met.T.Taker.laws.fails_then _ _ _ _ _ _ _ _ inv.3 (rw (entries_alone g at past reads) at failed),
       λ more may.
-          let ahead = c.in-Some.ensures.ahead t mid more inv.2 may in (
+          let ahead = c.in-Some.ensures.ahead t (scanner_with_events past inv.0) more inv.2 may in (
             entries_in t (past.bytes ++ more) ahead.0,
             entries_rest t (past.bytes ++ more) past.taken inv.0 e ahead.0 inv.1 now.read reads.count
                 (ap (events_of (past.bytes ++ more)) (sym reads.words) ∙ ahead.1) (now.as_read more may) (inv.4 more may),
@@ -120,14 +106,11 @@ returns-clause-stands g c = λ past reads.
     let t = c.args.table.now in
     let inv = c.loop-event.invariant.taken past reads in
     let mid = scanner_with_events past inv.0 in
-    let known : past.taken ++ inv.0 ≡ known_events past = c.in_default.ensures.none t mid inv.2 refl in
-    subst (λ es. ReadsEvents t c.next.new.self (record past { taken = es })) (append-nil (past.taken ++ inv.0) ∙ known)
-    (c.in_default.ensures.stands t mid inv.2)
+    rw (append-nil (past.taken ++ inv.0) ∙ c.in_default.ensures.none t mid inv.2 refl) at (c.in_default.ensures.stands t mid inv.2)
 
 pub returns-clause-all : goal.returns-clause-all
 returns-clause-all g c = λ past reads.
     let t = c.args.table.now in
     let inv = c.loop-event.invariant.taken past reads in
-    let mid = scanner_with_events past inv.0 in
-    let known : past.taken ++ inv.0 ≡ known_events past = c.in_default.ensures.none t mid inv.2 refl in
+    let known : past.taken ++ inv.0 ≡ known_events past = c.in_default.ensures.none t (scanner_with_events past inv.0) inv.2 refl in
     (inv.1, inv.3, λ more may. ap (entries_in t (past.bytes ++ more)) (sym known) ∙ inv.4 more may)

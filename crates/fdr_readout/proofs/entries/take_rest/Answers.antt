@@ -8,8 +8,7 @@ use Rattle.fdr_readout.proofs.entries.take_rest.Goals as goal
 
 pub take_known-requires : goal.take_known-requires
 take_known-requires g c =
-    let past = decided_past c.args.table.now.frame.words c.requires.stands.0 in
-    (scanner_finished past, c.finish.ensures c.args.table.now past c.requires.stands.3.reads)
+    (_, c.finish.ensures c.args.table.now _ c.requires.stands.3.reads)
 
 pub returns-clause-all : goal.returns-clause-all
 unfolding entries_of
@@ -30,10 +29,7 @@ returns-clause-all g c = λ bytes first out_first had.
 pub returns-clause-events : goal.returns-clause-events
 unfolding entries_of
 returns-clause-events g c = λ bytes first out_first es had are.
-    let t = c.args.table.now in
-    let same : entries_of t bytes ≡ entries_in t bytes es =
-    ap (entries_in t bytes) (sym ((c.events_are_unique.ensures bytes t.frame.words).only_events es are)) in
-    rw (← same) (returns-clause-all g c bytes first out_first had)
+    rw ((c.events_are_unique.ensures bytes c.args.table.now.frame.words).only_events es are) (returns-clause-all g c bytes first out_first had)
 
 pub returns-clause-part : goal.returns-clause-part
 returns-clause-part g c = λ bytes first out_first had.
@@ -50,16 +46,13 @@ returns-clause-part g c = λ bytes first out_first had.
 
 pub returns-clause-reads : goal.returns-clause-reads
 returns-clause-reads g c = λ bytes first out_first had.
-    let past = decided_past c.args.table.now.frame.words bytes in
-    let ended = c.finish.ensures c.args.table.now past had.reads in
-    on_ok_weaker c.take_known.result (λ reads. (_, reads)) (c.take_known.ensures.stands (scanner_finished past) ended)
+    on_ok_weaker c.take_known.result (λ reads. (_, reads)) (c.take_known.ensures.stands _ (c.finish.ensures c.args.table.now _ had.reads))
 
 pub returns-clause-step : goal.returns-clause-step
 returns-clause-step g c =
-    let ended = c.finish.ensures c.args.table.now (decided_past c.args.table.now.frame.words c.requires.stands.0) c.requires.stands.3.reads in
-    on_ok_weaker c.take_known.result (λ took. (took.0, took.1)) (c.take_known.ensures.all _ ended)
+    on_ok_weaker c.take_known.result (λ took. (took.0, took.1)) (c.take_known.ensures.all _ (c.finish.ensures c.args.table.now _ c.requires.stands.3.reads))
 
 pub returns-clause-step_part : goal.returns-clause-step_part
 returns-clause-step_part g c =
-    let ended = c.finish.ensures c.args.table.now (decided_past c.args.table.now.frame.words c.requires.stands.0) c.requires.stands.3.reads in
-    on_err_weaker c.take_known.result (λ failed. (failed.0, failed.1)) (c.take_known.ensures.part _ ended)
+    on_err_weaker c.take_known.result (λ failed. (failed.0, failed.1))
+    (c.take_known.ensures.part _ (c.finish.ensures c.args.table.now _ c.requires.stands.3.reads))

@@ -1,16 +1,7 @@
-use Rattle.fdr_readout.proofs.Readings.{read_to_end}
+use Rattle.std.proofs.Common.{refl}
+use Rattle.fdr_readout.proofs.Readings.{reads_still, read_to_end}
 use Rattle.fdr_readout.proofs.events.EventReader.finish.Goals as goal
 
 pub returns : goal.returns
-returns c = λ t past reads. record {
-  count = reads.count;
-  words = reads.words;
-  scanner = c.finish.ensures.stands past reads.scanner;
-  room = reads.room;
-  adjacent = reads.adjacent;
-  earlier = reads.earlier;
-  read = reads.read;
-  frames = reads.frames;
-  apart = reads.apart;
-  as_read = read_to_end t past reads.read reads.as_read;
-}
+returns c = λ t past reads.
+    reads_still t _ _ past _ reads refl refl refl (c.finish.ensures.stands past reads.scanner) reads.adjacent (read_to_end t past reads.read reads.as_read)

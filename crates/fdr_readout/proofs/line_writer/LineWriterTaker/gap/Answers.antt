@@ -1,10 +1,14 @@
-use Rattle.fdr_readout.proofs.TakerLemmas.{gap_entry_lines}
+use Rattle.std.proofs.Common.{append-nil}
+use Rattle.fdr_listing.specs.Text.{gap_text}
+use Rattle.fdr_readout.specs.Entries.{entry_lines}
 use Rattle.fdr_readout.proofs.line_writer.LineWriterTaker.gap.Goals as goal
 
 pub returns-clause-all : goal.returns-clause-all
+unfolding entry_lines
 returns-clause-all g c = λ t.
-    rw (gap_entry_lines t c.args.from c.args.bits, ← c.gap_line.ensures, ← c.bytes.ensures.content, ← c.self.view_is) c.add.ensures.all
+    rw (append-nil (gap_text c.args.from c.args.bits), ← c.gap_line.ensures, ← c.bytes.ensures.content, ← c.self.view_is) c.add.ensures.all
 
 pub returns-clause-part : goal.returns-clause-part
+unfolding entry_lines
 returns-clause-part g c = λ t.
-    rw (gap_entry_lines t c.args.from c.args.bits, ← c.gap_line.ensures, ← c.bytes.ensures.content, ← c.self.view_is) c.add.ensures.part
+    rw (append-nil (gap_text c.args.from c.args.bits), ← c.gap_line.ensures, ← c.bytes.ensures.content, ← c.self.view_is) c.add.ensures.part
