@@ -39,9 +39,6 @@ filter_to xs ys a early late =
     filter-append (λ x. nat_le x a) xs (a ∷ ys) ∙ rw (front, le-leb a a (omega arith), rest) refl
 
 module _ (b : List ℕ) (w free p : ℕ) (xs : List ℕ) (some : 0 < w) (so_far : SoFar b w free xs) (next : IsFirstFrameFrom b w free p) where
-  later : All (λ x. p + 48 * w ≤ x) (accepted_from b w (p + 48 * w))
-  later = accepted_behind b w (p + 48 * w)
-
   -- the next frame, and those after it
   pub all_split : accepted_frames b w ≡ (xs ++ p ∷ []) ++ accepted_from b w (p + 48 * w)
   all_split = so_far.all ∙ ap (λ (ys : List ℕ). xs ++ ys) (accepted_first b w free p some next)
@@ -52,17 +49,10 @@ module _ (b : List ℕ) (w free p : ℕ) (xs : List ℕ) (some : 0 < w) (so_far 
   accepted_to_next =
       let behind = next.behind in
       ap (filter (λ x. nat_le x p)) (all_split ∙ append_assoc xs (p ∷ []) (accepted_from b w (p + 48 * w)))
-      ∙ filter_to xs (accepted_from b w (p + 48 * w)) p (λ k d h. omega (arith, so_far.before k d h)) (λ k d h. omega (arith, later k d h))
+      ∙ filter_to xs (accepted_from b w (p + 48 * w)) p (λ k d h. omega (arith, so_far.before k d h)) (λ k d h. omega (arith, accepted_behind b w (p + 48 * w) k d h))
 
   none_ends_at : (ys : List ℕ) → All (λ x. x + 48 * w ≡ p → ⊥) ys → list_any (λ x. eqb (x + 48 * w) p) ys ≡ false
   none_ends_at ys h = list_any_none (λ x. eqb (x + 48 * w) p) ys (λ k d i. ne_eqb _ p (h k d i))
-
-  only_before : list_any (λ x. eqb (x + 48 * w) p) (accepted_frames b w) ≡ list_any (λ x. eqb (x + 48 * w) p) xs
-  only_before =
-      let behind = next.behind in
-      let after = none_ends_at (p ∷ accepted_from b w (p + 48 * w)) (All-cons (λ x. x + 48 * w ≡ p → ⊥) p _ (λ e. omega arith)
-      (λ k d h e. omega (arith, later k d h))) in
-      rw (so_far.all, accepted_first b w free p some next) (list_any-append (λ x. eqb (x + 48 * w) p) xs _ ∙ rw after (or-false _))
 
   -- it does where the next frame begins at the end of the last one
   adjacent_before : list_any (λ x. eqb (x + 48 * w) p) xs ≡ (ltb 0 free && eqb p free)
@@ -78,7 +68,10 @@ module _ (b : List ℕ) (w free p : ℕ) (xs : List ℕ) (some : 0 < w) (so_far 
 
   -- whether another frame ends where the next one begins
   pub adjacent_next : list_any (λ x. x + 48 * w == p) (accepted_frames b w) ≡ (ltb 0 free && eqb p free)
-  adjacent_next = only_before ∙ adjacent_before
+  adjacent_next =
+      let after = none_ends_at (p ∷ accepted_from b w (p + 48 * w)) (All-cons (λ x. x + 48 * w ≡ p → ⊥) p _ (λ e. omega arith)
+      (λ k d h e. omega (arith, accepted_behind b w (p + 48 * w) k d h))) in
+      rw (so_far.all, accepted_first b w free p some next) (list_any-append (λ x. eqb (x + 48 * w) p) xs _ ∙ rw after (or-false _) ∙ adjacent_before)
 
   pub so_far_next : SoFar b w (p + 48 * w) (xs ++ p ∷ [])
   so_far_next =

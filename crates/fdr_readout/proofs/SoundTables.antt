@@ -1,5 +1,5 @@
 -- The occurrences of a sound table's places share no bit and are in words of data, so its samples can be read back from their frames.
-use Rattle.std.proofs.Common.{◌≡◌, ℕ, ◌%◌, ◌<◌, ◌⊎◌, inl, inr, ⊎_elim, List, Option, Some, None, get_or, refl, sym, ap, ◌∙◌, subst, arith, ◌≢◌, ◌+◌, ◌-◌, ◌*◌}
+use Rattle.std.proofs.Common.{◌≡◌, ℕ, ◌%◌, ◌<◌, ◌⊎◌, inl, inr, ⊎_elim, List, Option, Some, None, get_or, refl, sym, ap, ◌∙◌, subst, arith, ◌≢◌, ◌+◌, ◌*◌}
 use Rattle.std.proofs.Common.{◌/◌, ◌≤◌, true, false, eqb, eqb-true}
 use Rattle.std.specs.Prelude.{All, AllPairs, Contains, slice_get, option_map, ◌&&◌, nat_le, nat_lt, filter}
 use Rattle.std.specs.List.{range_with_len, enumerate_from}
@@ -27,11 +27,6 @@ use Rattle.fdr_frame.specs.declared.SlotKind.TheVariants.{Plain}
 use Rattle.fdr_frame.specs.Slots.{is_sync, is_counter, kind_of, word_of}
 use Rattle.fdr_lists.proofs.Ranges.{All-range}
 
-covers_by_parts : (w : ℕ) (p : PlaceRow) (b : ℕ) → occurs w p (b / 12) ≡ true → p.lsb ≤ b % 12 + 1 → b % 12 + 1 < p.lsb + p.width → covers w p b ≡ true
-covers_by_parts w p b here low high =
-    and_from (occurs w p (b / 12) && nat_le p.lsb (b % 12 + 1)) (nat_lt (b % 12 + 1) (p.lsb + p.width))
-    (and_from (occurs w p (b / 12)) (nat_le p.lsb (b % 12 + 1)) here (le-leb _ _ low)) (lt-ltb _ _ high)
-
 -- where a place begins
 begins_parts : (w x : ℕ) (p : PlaceRow) → begins_at w x p ≡ true → (x % 12 + 1 ≡ p.lsb) × (occurs w p (x / 12) ≡ true)
 unfolding begins_at
@@ -46,7 +41,8 @@ covers_from w x b p fits begins low high =
     let lsb = at.0 in
     let bits = fits.bits in
     let word : b / 12 ≡ x / 12 = omega arith in
-    covers_by_parts w p b (ap (occurs w p) word ∙ at.1) (omega arith) (omega arith)
+    and_from (occurs w p (b / 12) && nat_le p.lsb (b % 12 + 1)) (nat_lt (b % 12 + 1) (p.lsb + p.width))
+    (and_from _ _ (ap (occurs w p) word ∙ at.1) (le-leb _ _ (omega arith))) (lt-ltb _ _ (omega arith))
 
 -- some bits share none with others
 abbrev pub BitsApart : ℕ → ℕ → ℕ → ℕ → Type 0
@@ -244,8 +240,7 @@ parts_from t n s stands made =
     let w = t.frame.words in
     let h : ℕ → Option Part = λ part. part_at s.index (carrier_of w t.places s.param part) in
     All-map (IsFrom t) (λ (p : Part). record { sample = n; part = p }) s.parts
-    (subst (λ (ps : List Part). All (λ (p : Part). IsFrom t (record { sample = n; part = p })) ps) (sym made.parts)
-    (All_filter_map (λ (p : Part). IsFrom t (record { sample = n; part = p })) h (range_with_len 1 4)
+    (rw made.parts (All_filter_map (λ (p : Part). IsFrom t (record { sample = n; part = p })) h (range_with_len 1 4)
     (λ k d l. λ p is.
     let part = get_or (range_with_len 1 4) k d in
     let found = mapped (λ (o : Occurrence). record { at = o.at; width = o.width; shift = shift_of t.places s.param part })
@@ -289,16 +284,12 @@ same_part t a b range sound first second param number =
     let r = second.sample in
     let os = part_occurrences w t.places s.param first.number in
     let pairs = part_occurrences_apart t s.param first.number range sound in
-    let read : slice_get os r.index ≡ Some second.occurrence =
-    ap (λ n. slice_get (part_occurrences w t.places n first.number) r.index) param ∙ ap (λ k. slice_get (part_occurrences w t.places r.param k) r.index) number
-    ∙ second.read in
+    let read : slice_get os r.index ≡ Some second.occurrence = rw (param, number) second.read in
     ⊎_elim
     (λ (index : s.index ≡ r.index).
     let numbers = same_number t a.sample b.sample s r first.stands second.stands param index in
     let same : first.occurrence ≡ second.occurrence = same_Some first.occurrence second.occurrence (sym first.read ∙ ap (slice_get os) index ∙ read) in
-    let place : Occurrence → ℕ → ℕ → Part = λ o n k. record { at = o.at; width = o.width; shift = shift_of t.places n k } in
-    let part : a.part ≡ b.part = first.is ∙ ap (λ o. place o s.param first.number) same ∙ ap (λ n. place second.occurrence n first.number) param
-    ∙ ap (place second.occurrence r.param) number ∙ sym second.is in
+    let part : a.part ≡ b.part = rw (first.is, second.is, same, param, number) refl in
     let pair : ℕ → Part → SlotPart = λ n p. record { sample = n; part = p } in
     inl (sym (ap (λ n. pair n a.part) numbers ∙ ap (pair b.sample) part)))
     (λ apart. inr (apart_from t a b first second apart))
@@ -326,7 +317,7 @@ part_is_placed : (t : TableRows) (a : SlotPart) → IsInRange t → IsSound t �
 part_is_placed t a range sound from =
     let place = from_place t a from in
     let word = lies_in_word t from.sample.param from.number from.occurrence range place in
-    subst (IsPlaced t.frame) (sym from.is) (record {
+    rw from.is (record {
       within = word.0;
       slot = word.1;
       plain = stands_in_data t from.sample.param from.number from.occurrence range sound place;
@@ -335,14 +326,8 @@ part_is_placed t a range sound from =
 samples_whole : (t : TableRows) (n : ℕ) (s : Sample) → IsInRange t → IsSound t → slice_get (samples t) n ≡ Some s
     → (p : ParamRow) × (slice_get t.params s.param ≡ Some p) × AreWhole p s.parts
 samples_whole t n s range sound stands =
-    let h = All-at (IsSampleOf t.params) (samples t) n s (samples_sound t range sound) stands in (
-      h.param,
-      h.found,
-      λ raw small.
-          let pieces = filled_pieces raw 0 h.param.width s.parts h.parts in
-          let none : raw % 1 ≡ 0 = omega arith in
-          omega (arith, pieces, none, mod-eq_of_lt small),
-    )
+    let h = All-at (IsSampleOf t.params) (samples t) n s (samples_sound t range sound) stands in
+    (h.param, h.found, λ raw small. omega (arith, filled_pieces raw 0 h.param.width s.parts h.parts, mod-eq_of_lt small))
 
 -- the samples of a sound table can be read back from their frames
 pub sound_recordable : (t : TableRows) → IsInRange t → IsSound t → IsRecordable t

@@ -17,10 +17,9 @@ use Rattle.fdr_readout.proofs.Recordable.{IsRecordable}
 use Rattle.fdr_readout.specs.SampledRows.{whole_frames}
 use Rattle.fdr_readout.proofs.SoFarLemmas.{SoFar, SoFar-none, so_far_next}
 use Rattle.fdr_readout.proofs.SlotKinds.{slot_word-sync}
-use Rattle.std.specs.Prelude.{All}
 use Rattle.fdr_bus.specs.Records.{time_of}
 use Rattle.fdr_sampler.specs.SlotWord.{slot_word}
-use Rattle.fdr_sampler.proofs.Packing.{length-packed, IsWord, bit_at-packed}
+use Rattle.fdr_sampler.proofs.Packing.{length-packed, bit_at-packed}
 use Rattle.fdr_sampler.proofs.Streaming.{slot_words-below}
 use Rattle.fdr_sampler.proofs.StreamWords.{length-stream_words}
 use Rattle.std.specs.Int.{bit_at as nat_bit}
@@ -35,22 +34,18 @@ word_bits words k j within few =
     bit_at-packed words (12 * k + j) (omega (arith, length-packed words))
     ∙ ap (λ x. slice_index words x / 2 ^ ((12 * k + j) % 12) % 2) at ∙ ap (λ x. slice_index words k / 2 ^ x % 2) bit
 
--- word k begins at bit 12 k
-pub word_at-packed : (words : List ℕ) (k : ℕ) → All IsWord words → k < length words → word_at (packed words) (12 * k) ≡ slice_index words k
-unfolding word_at
-word_at-packed words k fit within =
-    number_of-same (λ j. bit_at (packed words) (12 * k + j)) (nat_bit (slice_index words k)) 12 (λ j few. word_bits words k j within few)
-    ∙ number_of-bits (slice_index words k) 12 ∙ mod-eq_of_lt (fit k 0 within)
-
 -- ---- the words in the bytes
 
 -- word k of a recording begins at bit 12 k
 pub word_at-stream : (t : TableRows) (records : List BusRecord) (k : ℕ) → k < length (stream_words t records) →
     word_at (stream_of t records) (12 * k) ≡ slot_word t records k
+unfolding word_at
 word_at-stream t records k within =
     let n = slot_count t.frame.words (time_of records) in
+    let words = stream_words t records in
     let low : k < n = omega (arith, length-stream_words t records) in
-    word_at-packed (stream_words t records) k (slot_words-below t records n) within
+    number_of-same (λ j. bit_at (packed words) (12 * k + j)) (nat_bit (slice_index words k)) 12 (λ j few. word_bits words k j within few)
+    ∙ number_of-bits (slice_index words k) 12 ∙ mod-eq_of_lt (slot_words-below t records n k 0 within)
     ∙ get_or-map-range_with_len (slot_word t records) 0 n k k 0 low (omega arith)
 
 -- at most four bits follow the words
