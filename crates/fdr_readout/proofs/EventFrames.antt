@@ -1,12 +1,12 @@
 -- The accepted frames up to one of the events, and the entries of that event, also behind frames of other bits.
-use Rattle.std.proofs.Common.{◌≡◌, ℕ, ◌+◌, ◌-◌, ◌*◌, ◌<◌, ◌≤◌, List, [], ◌∷◌, ◌++◌, length, map, true, false, sym, ap, refl, ◌∙◌, subst, arith, append-nil}
+use Rattle.std.proofs.Common.{◌≡◌, ℕ, ◌+◌, ◌-◌, ◌*◌, ◌<◌, ◌≤◌, List, [], ◌∷◌, ◌++◌, length, map, true, false, sym, ap, refl, ◌∙◌, arith, append-nil}
 use Rattle.std.proofs.Common.{append_assoc, length-append, zero, suc}
-use Rattle.std.specs.Prelude.{All, AllPairs, IsSome}
+use Rattle.std.specs.Prelude.{AllPairs, IsSome}
 use Rattle.std.specs.List.{filter_map}
 use Rattle.std.proofs.lemmas.Bool.{and_left}
 use Rattle.std.proofs.lemmas.List.{length-map, get_or_append_left, get_or_at, get_or-append-add}
 use Rattle.std.proofs.lemmas.List.Concat.{flat_map-append}
-use Rattle.std.proofs.lemmas.List.Elements.{All-weaker, filter_map-append}
+use Rattle.std.proofs.lemmas.List.Elements.{filter_map-append}
 use Rattle.fdr_frame.specs.WordCount.{IsWordCount}
 use Rattle.fdr_frame.proofs.WordCounts.{word_count_bounds}
 use Rattle.fdr_sync.specs.Accepted.{accepted_frames}
@@ -47,36 +47,20 @@ linked-apart f earlier frames (suc i) apart =
     let next = rw later at (frame_at-behind earlier frames (suc i)) in
     ap (is_linked_at f (earlier ++ frames)) later ∙ rw (frame_at-behind earlier frames i, next) refl
 
--- so is the last
-pub last_linked-apart : (f : FrameRow) (earlier frames : List ReadFrame) → BeginsApart frames → 0 < length frames
-    → is_linked_at f (earlier ++ frames) (length (earlier ++ frames) - 1) ≡ is_linked_at f frames (length frames - 1)
-last_linked-apart f earlier frames apart some =
-    let last : length (earlier ++ frames) - 1 ≡ length earlier + (length frames - 1) = omega (arith, length-append earlier frames) in
-    ap (is_linked_at f (earlier ++ frames)) last ∙ linked-apart f earlier frames (length frames - 1) apart
-
--- the elements before one of a list, and those after it
-pairs_before : {X : Type 0} (R : X → X → Type 0) (xs : List X) (a : X) (ys : List X) → AllPairs R (xs ++ a ∷ ys) → All (λ x. R x a) xs
-pairs_before R xs a ys pairs k d within =
-    rw (get_or_append_left xs (a ∷ ys) d k within, get_or_at xs a ys d (length xs) refl) at
-    (pairs k (length xs) d within (omega (arith, length-append xs (a ∷ ys))))
-
-pairs_behind : {X : Type 0} (R : X → X → Type 0) (xs : List X) (a : X) (ys : List X) → AllPairs R (xs ++ a ∷ ys) → All (R a) ys
-pairs_behind R xs a ys pairs k d within =
-    rw (get_or_at xs a ys d (length xs) refl, get_or-append-add xs (a ∷ ys) (suc k) d) at
-    (pairs (length xs) (length xs + suc k) d (omega arith) (omega (arith, length-append xs (a ∷ ys))))
-
 -- the accepted frames up to one that is an event
 accepted_to_event : (b : List ℕ) (w a : ℕ) (taken after : List Event) → 0 < w → events_of b w ≡ taken ++ Frame a ∷ after
     → accepted_to b w a ≡ filter_map frame_of_event taken ++ a ∷ []
 accepted_to_event b w a taken after some is =
     let xs = filter_map frame_of_event taken in
     let ys = filter_map frame_of_event after in
-    let R : ℕ → ℕ → Type 0 = λ earlier later. earlier + 48 * w ≤ later in
     let all : accepted_frames b w ≡ xs ++ a ∷ ys =
     sym (frames_of_events b w) ∙ ap (filter_map frame_of_event) is ∙ filter_map-append frame_of_event taken (Frame a ∷ after) in
-    let apart = subst (AllPairs R) all (accepted_apart b w 0) in
-    rw all (filter_to xs ys a (All-weaker (λ x. R x a) (λ x. x ≤ a) (λ x before. omega arith) xs (pairs_before R xs a ys apart))
-    (All-weaker (R a) (λ y. a < y) (λ y behind. omega arith) ys (pairs_behind R xs a ys apart)))
+    let pairs : AllPairs (λ earlier later. earlier + 48 * w ≤ later) (xs ++ a ∷ ys) = rw all at (accepted_apart b w 0) in
+    let at = λ (d : ℕ). get_or_at xs a ys d (length xs) refl in
+    let long = length-append xs (a ∷ ys) in
+    rw all (filter_to xs ys a
+    (λ k d l. omega (arith, pairs k (length xs) d l (omega (arith, long)), get_or_append_left xs (a ∷ ys) d k l, at d))
+    (λ k d l. omega (arith, pairs (length xs) (length xs + suc k) d (omega arith) (omega (arith, long)), at d, get_or-append-add xs (a ∷ ys) (suc k) d)))
 
 -- a frame that was just read is one at least
 pub some_read : (b : List ℕ) (w : ℕ) (taken : List Event) (e : Event) (read : List ReadFrame) → IsSome (frame_of_event e)
@@ -115,10 +99,9 @@ pub entries_apart : (t : TableRows) (earlier read : List ReadFrame) (e : Event) 
 unfolding last_frame_entries
 entries_apart t earlier read (Gap a n) count apart some = refl
 entries_apart t earlier read (Frame a) count apart some =
-    rw (
-      last_linked-apart t.frame earlier read apart (some refl),
-      last_rows-apart t earlier read (omega (arith, word_count_bounds t.frame.words count)) apart (some refl),
-    ) refl
+    let last : length (earlier ++ read) - 1 ≡ length earlier + (length read - 1) = omega (arith, length-append earlier read, some refl) in
+    let rows = last_rows-apart t earlier read (omega (arith, word_count_bounds t.frame.words count)) apart (some refl) in
+    rw (rows, last, linked-apart t.frame earlier read (length read - 1) apart) refl
 
 module _ (t : TableRows) (b : List ℕ) (taken es : List Event) (e : Event) (after : List Event) (entries : List Entry) (read : List ReadFrame)
     (count : IsWordCount t.frame.words) (ahead : events_of b t.frame.words ≡ (taken ++ es) ++ e ∷ after)

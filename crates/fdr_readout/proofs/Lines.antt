@@ -1,5 +1,5 @@
 -- The lines of events.
-use Rattle.std.proofs.Common.{◌≡◌, ℕ, ◌*◌, ◌-◌, ◌≤◌, ◌<◌, List, [], ◌∷◌, ◌++◌, true, false}
+use Rattle.std.proofs.Common.{◌≡◌, ℕ, ◌*◌, ◌-◌, ◌<◌, List, [], ◌∷◌, ◌++◌, true, false}
 use Rattle.std.proofs.Common.{sym, append_assoc, ltb, cond, ap, refl, ◌∙◌, arith}
 use Rattle.std.proofs.lemmas.Bool.{cond-false, le-ltb}
 use Rattle.std.proofs.lemmas.List.{append-nil}
@@ -14,11 +14,6 @@ use Rattle.fdr_sync.proofs.EventSteps.{events_from_first, events_from_none}
 use Rattle.fdr_table.specs.Rows.{TableRows}
 use Rattle.fdr_readout.specs.Listing.{gap_lines, lines_of}
 use Rattle.fdr_readout.specs.Survival.{lines_at}
-
--- no line of a gap without bits
-pub gap_lines-none : (from end : ℕ) → end ≤ from → gap_lines from end ≡ []
-unfolding gap_lines
-gap_lines-none from end h = cond-false (ltb from end) (gap_text from (end - from)) [] (le-ltb from end h)
 
 gap_lines_between : (t : TableRows) (b : List ℕ) (from end : ℕ) → flat_map (lines_of t b) (gap_between from end) ≡ gap_lines from end
 unfolding lines_of gap_lines
@@ -37,11 +32,11 @@ lines_from_first t b free p some next =
 -- a frame at the very place where a search goes on
 pub lines_from_here : (t : TableRows) (b : List ℕ) (p : ℕ) → 0 < t.frame.words → IsFirstFrameFrom b t.frame.words p p →
     flat_map (lines_of t b) (events_from b t.frame.words p) ≡ lines_at t b p ++ flat_map (lines_of t b) (events_from b t.frame.words (p + 48 * t.frame.words))
-unfolding lines_of lines_at
+unfolding lines_of lines_at gap_lines
 lines_from_here t b p some next =
     lines_from_first t b p p some next
     ∙ ap (λ (gap : List ℕ). (gap ++ lines_at t b p) ++ flat_map (lines_of t b) (events_from b t.frame.words (p + 48 * t.frame.words)))
-    (gap_lines-none p p (omega arith))
+    (cond-false _ (gap_text p (p - p)) [] (le-ltb p p (omega arith)))
 
 -- the line of the last gap, where no frame is left
 pub lines_from_none : (t : TableRows) (b : List ℕ) (free : ℕ) → HasNoFrameFrom b t.frame.words free

@@ -14,7 +14,7 @@ use Rattle.fdr_layout.specs.Samples.{Part, Sample, samples, ending_in}
 use Rattle.fdr_layout.proofs.ByLastPart.{ending_at}
 use Rattle.fdr_layout.proofs.SlotLemmas.{parts_of_slot_hold}
 use Rattle.fdr_sampler.specs.Held.{Source, HeldWord, source_of, held_word, is_fresh, field_held, raw_of_held, raw_value, first_part_slot}
-use Rattle.fdr_sampler.specs.SlotWord.{numbered_value, piece_of, data_word, data_of}
+use Rattle.fdr_sampler.specs.SlotWord.{numbered_value, piece_of, data_word}
 use Rattle.fdr_sampler.proofs.Lists.{Contains-map, Contains-filter, Contains-flat_map, Contains-range, Contains-enumerate}
 use Rattle.fdr_sampler.proofs.DataWords.{IsWithin, with_part, piece_fits, data_of-fold}
 use Rattle.fdr_sampler.proofs.SlotFacts.{parts_of_slot_in}
@@ -42,15 +42,6 @@ carries_itself : (value : ℕ → ℕ) (word : ℕ) (a : SlotPart) → Carries v
 unfolding Carries
 carries_itself value word a = field_of-with_field word (a.part.at % 12) a.part.width (piece_of (value a.sample) a.part) (piece_fits value a)
 
--- parts that are apart in one slot share no bit of its word
-bits_apart : (a b : SlotPart) → b.part.at / 12 ≡ a.part.at / 12 → AreApart a b →
-    (a.part.at % 12 + a.part.width ≤ b.part.at % 12) ⊎ (b.part.at % 12 + b.part.width ≤ a.part.at % 12)
-bits_apart a b slot apart =
-    ⊎_elim
-    (λ (below : a.part.at + a.part.width ≤ b.part.at). inl (omega arith))
-    (λ (above : b.part.at + b.part.width ≤ a.part.at). inr (omega arith))
-    apart
-
 -- a further part changes no piece that the word has
 carries_still : (value : ℕ → ℕ) (word : ℕ) (a b : SlotPart) → IsOther a b → Carries value a word → Carries value a (with_part value word b)
 unfolding Carries
@@ -59,7 +50,10 @@ carries_still value word a b other carries =
     (λ (same : b ≡ a). subst (λ (x : SlotPart). Carries value a (with_part value word x)) (sym same) (carries_itself value word a))
     (λ (apart : AreApart a b).
     field_of-with_field_apart word (b.part.at % 12) b.part.width (piece_of (value b.sample) b.part) (a.part.at % 12) a.part.width (piece_fits value b)
-    (bits_apart a b other.slot apart)
+    (⊎_elim
+    (λ (below : a.part.at + a.part.width ≤ b.part.at). inl (omega (arith, other.slot)))
+    (λ (above : b.part.at + b.part.width ≤ a.part.at). inr (omega (arith, other.slot)))
+    apart)
     ∙ carries)
     other.apart
 
@@ -80,14 +74,6 @@ carries_from value a (b ∷ parts) word zero others within is =
     (subst (λ (x : SlotPart). Carries value a (with_part value word x)) (sym is) (carries_itself value word a))
 carries_from value a (b ∷ parts) word (suc k) others within is =
     carries_from value a parts (with_part value word b) k (All-tail (IsOther a) b parts others) (omega arith) is
-
--- a word of data has each of its parts' pieces
-pub data_carries : (value : ℕ → ℕ) (a : SlotPart) (parts : List SlotPart) → All IsWithin parts → All (IsOther a) parts → Contains parts a →
-    data_of value parts / 2 ^ (a.part.at % 12) % 2 ^ a.part.width ≡ piece_of (value a.sample) a.part
-unfolding Carries
-data_carries value a parts within others here =
-    ap (λ word. word / 2 ^ (a.part.at % 12) % 2 ^ a.part.width) (data_of-fold value parts within)
-    ∙ carries_from value a parts 0 here.0 others here.1 here.2
 
 -- ---- the parts of samples
 
@@ -111,10 +97,6 @@ parts_in-contain t a here =
     Contains-flat_map (parts_at (all_parts t)) (range_with_len (12 * k) 12) a.part.at a (Contains-range (12 * k) 12 a.part.at (omega arith) (omega arith))
     (Contains-filter (λ (b : SlotPart). b.part.at == a.part.at) (all_parts t) a (eq-eqb a.part.at a.part.at refl) here)
 
--- each part in a slot lies within its word
-parts_in-placed : (t : TableRows) (k : ℕ) → IsRecordable t → All (λ (a : SlotPart). IsPlaced t.frame a.part) (parts_in t k)
-parts_in-placed t k h = parts_of_slot_hold (λ (a : SlotPart). IsPlaced t.frame a.part) (parts_among (samples t)) k h.placed
-
 -- the parts of a slot share no bit
 others_in_slot : (t : TableRows) (a : SlotPart) → IsRecordable t → Contains (all_parts t) a → All (IsOther a) (parts_in t (a.part.at / 12))
 others_in_slot t a h here =
@@ -127,12 +109,16 @@ others_in_slot t a h here =
 pub data_word-piece : (t : TableRows) (records : List BusRecord) (start n : ℕ) (s : Sample) (p : Part) → IsRecordable t → slice_get (samples t) n ≡ Some s
     → Contains s.parts p →
     data_word t records start (p.at / 12) / 2 ^ (p.at % 12) % 2 ^ p.width ≡ piece_of (raw_value t records start s) p
+unfolding Carries
 data_word-piece t records start n s p h got here =
     let a = part_of n p in
+    let value = numbered_value t records start in
+    let parts = parts_in t (p.at / 12) in
     let in_all = all_parts-contain t n s p got here in
-    let within : All IsWithin (parts_in t (p.at / 12)) =
-    All-weaker (λ (b : SlotPart). IsPlaced t.frame b.part) IsWithin (λ b placed. placed.within) (parts_in t (p.at / 12)) (parts_in-placed t (p.at / 12) h) in
-    data_carries (numbered_value t records start) a (parts_in t (p.at / 12)) within (others_in_slot t a h in_all) (parts_in-contain t a in_all)
+    let among = parts_in-contain t a in_all in
+    let within : All IsWithin (all_parts t) = λ i d l. (h.placed i d l).within in
+    ap (λ word. word / 2 ^ (p.at % 12) % 2 ^ p.width) (data_of-fold value parts (parts_of_slot_hold IsWithin (all_parts t) (p.at / 12) within))
+    ∙ carries_from value a parts 0 among.0 (others_in_slot t a h in_all) among.1 among.2
     ∙ ap (λ raw. piece_of raw p) (numbered_value_at t records start n s got)
 
 -- a part of a sample lies in one word of data

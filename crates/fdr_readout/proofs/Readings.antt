@@ -24,20 +24,10 @@ use Rattle.fdr_readout.specs.declared.events.EventReader.{EventReader}
 use Rattle.fdr_readout.specs.Listing.{frame_read, frame_words}
 use Rattle.fdr_readout.specs.Reading.{MayGoOn, AreRead, ReadsEvents, decided_past}
 
--- the words of a frame that is whole
-words_stay : (b more : List ℕ) (w a : ℕ) → a + 48 * w ≤ bits_in b → frame_words (b ++ more) w a ≡ frame_words b w a
-unfolding frame_words
-words_stay b more w a within =
-    map-range-agree (λ k. word_at (b ++ more) (a + 12 * k)) (λ k. word_at b (a + 12 * k)) 0 (4 * w)
-    (λ k low high. word_at_append_left b more (a + 12 * k) (omega arith))
-
 pub ends_with_one : (es : List Event) (e : Event) → ends_with_frame (es ++ e ∷ []) ≡ is_some (frame_of_event e)
 ends_with_one es e = fold-append (λ was e. is_some (frame_of_event e)) false es (e ∷ [])
 
 -- ---- what was read, as the past goes on
-
-cons_nil : {X : Type 0} (x : X) (xs : List X) → x ∷ xs ≡ [] → ⊥
-cons_nil x xs e = cc
 
 -- a further frame, which isn't adjacent where it is the first
 pub apart_push : (read : List ReadFrame) (r : ReadFrame) → BeginsApart read → (read ≡ [] → r.adjacent ≡ false) → BeginsApart (read ++ r ∷ [])
@@ -47,7 +37,7 @@ apart_push (x ∷ read) r apart first = apart
 no_frame_last : (f : ℕ → ReadFrame) (es : List Event) → map f (filter_map frame_of_event es) ≡ [] → ends_with_frame es ≡ false
 no_frame_last f [] none = refl
 no_frame_last f (Gap a n ∷ es) none = no_frame_last f es none
-no_frame_last f (Frame a ∷ es) none = absurd (cons_nil (f a) (map f (filter_map frame_of_event es)) none)
+no_frame_last f (Frame a ∷ es) none = absurd (let some : f a ∷ map f (filter_map frame_of_event es) ≡ [] = none in cc)
 
 -- where no frame was read, the last event is none
 pub first_after_no_frame : (t : TableRows) (past : ScannerPast) (read : List ReadFrame) → AreRead t past read → read ≡ []
@@ -110,14 +100,16 @@ pub read_one : (t : TableRows) (past : ScannerPast) (a : ℕ) (adjacent : Bool) 
     → list_any (λ x. x + 48 * t.frame.words == a) (accepted_frames (past.bytes ++ more) t.frame.words) ≡ adjacent)
     → AreRead t past read
     → AreRead t (scanner_with_events past (Frame a ∷ [])) (read ++ read_frame adjacent (frame_words past.bytes t.frame.words a) ∷ [])
-unfolding frame_read
+unfolding frame_read frame_words
 read_one t past a adjacent read within joined is = λ more may.
     let w = t.frame.words in
     let b = past.bytes ++ more in
     let f = frame_read b w in
     let xs = filter_map frame_of_event past.taken in
     let here : f a ≡ read_frame adjacent (frame_words past.bytes w a) =
-    ap (λ (j : Bool). read_frame j (frame_words b w a)) (joined more may) ∙ ap (read_frame adjacent) (words_stay past.bytes more w a within) in
+    ap (λ (j : Bool). read_frame j (frame_words b w a)) (joined more may) ∙ ap (read_frame adjacent)
+    (map-range-agree (λ k. word_at b (a + 12 * k)) (λ k. word_at past.bytes (a + 12 * k)) 0 (4 * w)
+    (λ k low high. word_at_append_left past.bytes more (a + 12 * k) (omega arith))) in
     rw (is more may, filter_map-append frame_of_event past.taken (Frame a ∷ []), map-append f xs (a ∷ []))
     (ap (λ (r : ReadFrame). map f xs ++ r ∷ []) (sym here))
 

@@ -37,12 +37,6 @@ pub record AddsToRun (t : TableRows) (records : List BusRecord) (frames : List R
       slice_index (frame_at frames (n - e)).words place ≡ slot_word t records (4 * t.frame.words * (j - e) + place)
   pub adjacent : (e : ℕ) → e < d → (frame_at frames (n - e)).adjacent ≡ true
 
--- the slot of a place of the frame that is as many before frame j as cycle c does before that of frame j
-slot_back : (w j c q : ℕ) → c ≤ j % 16 → 4 * w * (j - (j % 16 - c)) + q ≡ 64 * w * (j / 16) + (4 * w * c + q)
-slot_back w j c q low =
-    let back : j - (j % 16 - c) ≡ 16 * (j / 16) + c = omega arith in
-    ap (λ i. 4 * w * i + q) back ∙ omega arith
-
 -- a slot of the superframe by its cycle and its place in the frame
 slot_by_cycle : (w at : ℕ) → 4 * w * cycle_of w at + at / 12 % (4 * w) ≡ at / 12
 slot_by_cycle w at =
@@ -87,9 +81,12 @@ module _ (t : TableRows) (records : List BusRecord) (frames : List ReadFrame) (n
   part_word k s p got here low near =
       let w = t.frame.words in
       let c = cycle_of w p.at in
+      let q = p.at / 12 % (4 * w) in
       let placed = part_placed t k s p h got here in
-      are.words (j % 16 - c) (p.at / 12 % (4 * w)) near (mod_below (p.at / 12) (4 * w) (omega (arith, word_count_some w h.words)))
-      ∙ ap (slot_word t records) (slot_back w j c (p.at / 12 % (4 * w)) low ∙ ap (λ x. 64 * w * (j / 16) + x) (slot_by_cycle w p.at))
+      let back : j - (j % 16 - c) ≡ 16 * (j / 16) + c = omega arith in
+      let slot : 4 * w * (16 * (j / 16) + c) + q ≡ 64 * w * (j / 16) + (4 * w * c + q) = omega arith in
+      are.words (j % 16 - c) q near (mod_below (p.at / 12) (4 * w) (omega (arith, word_count_some w h.words)))
+      ∙ ap (slot_word t records) (ap (λ i. 4 * w * i + q) back ∙ slot ∙ ap (λ x. 64 * w * (j / 16) + x) (slot_by_cycle w p.at))
       ∙ slot_word-plain t records (j / 16) (p.at / 12) h placed.slot placed.plain
 
   -- so its bits are the piece that the sample put there

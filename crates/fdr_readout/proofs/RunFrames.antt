@@ -39,8 +39,7 @@ first_here b w p position = record { behind = omega arith; position = position; 
 -- the first frame position from a bit on, where there is one
 first_from : (b : List ℕ) (w free d : ℕ) → IsFramePosition b w (free + d) → (p : ℕ) × IsFirstFrameFrom b w free p × (p ≤ free + d)
 first_from b w free zero here =
-    let at : free + 0 ≡ free = omega arith in
-    (free, first_here b w free (subst (IsFramePosition b w) at here), omega arith)
+    (free, first_here b w free (subst (IsFramePosition b w) (omega arith) here), omega arith)
 first_from b w free (suc d) here =
     let at : free + suc d ≡ free + 1 + d = omega arith in
     ⊎_elim
@@ -74,8 +73,7 @@ reaches_from : (b : List ℕ) (w q : ℕ) → 0 < w → IsFramePosition b w q �
     SoFar b w free frames → events_of b w ≡ events ++ events_from b w free → Reaches b w q
 reaches_from b w q some position clear zero free frames events low high so_far decided = absurd (omega arith)
 reaches_from b w q some position clear (suc fuel) free frames events low high so_far decided =
-    let at : q ≡ free + (q - free) = omega arith in
-    let found = first_from b w free (q - free) (subst (IsFramePosition b w) at position) in
+    let found = first_from b w free (q - free) (subst (IsFramePosition b w) (omega arith) position) in
     let p = found.0 in
     let next : IsFirstFrameFrom b w free p = found.1 in
     let rest = events_from b w (p + 48 * w) in
@@ -98,9 +96,6 @@ pub reaches : (b : List ℕ) (w q : ℕ) → 0 < w → IsFramePosition b w q →
 reaches b w q some position clear = reaches_from b w q some position clear (q + 1) 0 [] [] (omega arith) (omega arith) (SoFar-none b w) refl
 
 -- ---- the frames of a run
-
-pub frames_from-more : (w q m : ℕ) → frames_from w q (m + 1) ≡ frames_from w q m ++ (q + 48 * w * m) ∷ []
-frames_from-more w q m = map-range_with_len_more (λ i. q + 48 * w * i) 0 m m (omega arith)
 
 module _ (t : TableRows) (records : List BusRecord) (b : List ℕ) (q j m : ℕ) (h : IsRecordable t) (survives : Survives t records b q j m) where
   -- the bits of frame i of the run lie within b
@@ -135,15 +130,14 @@ module _ (t : TableRows) (records : List BusRecord) (b : List ℕ) (q j m : ℕ)
   pub run_reached : Reaches b t.frame.words q
   run_reached =
       let w = t.frame.words in
-      let first : q + 48 * w * 0 ≡ q = omega arith in
-      reaches b w q (some_words t records h) (subst (IsFramePosition b w) first (run_position 0 (omega (arith, survives.not_empty)))) survives.clear
+      reaches b w q (some_words t records h) (subst (IsFramePosition b w) (omega arith) (run_position 0 (omega (arith, survives.not_empty)))) survives.clear
 
   -- one more frame of the run
   frames_to : (i : ℕ) →
       (run_reached.frames ++ frames_from t.frame.words q i) ++ (q + 48 * t.frame.words * i) ∷ [] ≡ run_reached.frames ++ frames_from t.frame.words q (i + 1)
   frames_to i =
       append_assoc run_reached.frames (frames_from t.frame.words q i) _
-      ∙ ap (λ (xs : List ℕ). run_reached.frames ++ xs) (sym (frames_from-more t.frame.words q i))
+      ∙ ap (λ (xs : List ℕ). run_reached.frames ++ xs) (sym (map-range_with_len_more (λ k. q + 48 * t.frame.words * k) 0 i i (omega arith)))
 
   -- The search comes to frame i of the run: it goes on at bit `free`, which is where this frame begins if it isn't the first.
   pub record ComesTo (i : ℕ) : Type 0 where
@@ -203,30 +197,27 @@ module _ (t : TableRows) (records : List BusRecord) (b : List ℕ) (q j m : ℕ)
       let w = t.frame.words in
       let p = q + 48 * w * i in
       let at = comes_to i early in
-      let far : 48 * w * 1 ≤ 48 * w * i = mul-le (48 * w) 1 (48 * w) i (omega arith) (omega arith) in
       let some = some_words t records h in
-      let ends : at.free ≡ p = at.here later in
+      let far : 48 * w * 1 ≤ 48 * w * i = mul-le (48 * w) 1 (48 * w) i (omega arith) (omega arith) in
       adjacent_next b w at.free p (run_reached.frames ++ frames_from w q i) some at.so_far at.next
-      ∙ and_from (ltb 0 at.free) (eqb p at.free) (lt-ltb 0 at.free (omega (arith, far))) (eq-eqb p at.free (sym ends))
+      ∙ and_from (ltb 0 at.free) (eqb p at.free) (lt-ltb 0 at.free (omega (arith, far, at.here later))) (eq-eqb p at.free (sym (at.here later)))
 
   -- ---- their rows
 
-  -- the accepted frames before the run
-  before_run : List ℕ
-  before_run = run_reached.frames
-
   -- frame i of the run as it is read, with frames before and after
   frame_at-run : (i k : ℕ) (rest : List ℕ) → i < k →
-      frame_at (map (frame_read b t.frame.words) (before_run ++ frames_from t.frame.words q k ++ rest)) (length before_run + i)
+      frame_at (map (frame_read b t.frame.words) (run_reached.frames ++ frames_from t.frame.words q k ++ rest)) (length run_reached.frames + i)
       ≡ frame_read b t.frame.words (q + 48 * t.frame.words * i)
   frame_at-run i k rest early =
       let w = t.frame.words in
+      let before = run_reached.frames in
       let run = frames_from w q k in
+      let n = length before + i in
       let count : length run ≡ k = length-map-range_with_len (λ i. q + 48 * w * i) 0 k in
-      let front : length before_run + i < length (before_run ++ run) = omega (arith, length-append before_run run, count) in
-      get_or-map (frame_read b w) (before_run ++ run ++ rest) (length before_run + i) 0 _ (omega (arith, front, length-append (before_run ++ run) rest))
-      ∙ ap (frame_read b w) (get_or_append_left (before_run ++ run) rest 0 (length before_run + i) front
-      ∙ get_or-append-add before_run run i 0 ∙ get_or-map-range_with_len (λ i. q + 48 * w * i) 0 k i i 0 early (omega arith))
+      let front : n < length (before ++ run) = omega (arith, length-append before run, count) in
+      get_or-map (frame_read b w) (before ++ run ++ rest) n 0 _ (omega (arith, front, length-append (before ++ run) rest))
+      ∙ ap (frame_read b w) (get_or_append_left (before ++ run) rest 0 n front
+      ∙ get_or-append-add before run i 0 ∙ get_or-map-range_with_len (λ i. q + 48 * w * i) 0 k i i 0 early (omega arith))
 
   -- it has the words of frame j + i of the recording
   words_of_run : (i place : ℕ) → i < m → place < 4 * t.frame.words →
@@ -248,12 +239,13 @@ module _ (t : TableRows) (records : List BusRecord) (b : List ℕ) (q j m : ℕ)
 
   -- so it is read as it was recorded, and so are those of the run before it
   run_recorded : (i k : ℕ) (rest : List ℕ) → i < k → k ≤ m →
-      AddsToRun t records (map (frame_read b t.frame.words) (before_run ++ frames_from t.frame.words q k ++ rest)) (length before_run + i) (j + i) i
+      AddsToRun t records (map (frame_read b t.frame.words) (run_reached.frames ++ frames_from t.frame.words q k ++ rest))
+      (length run_reached.frames + i) (j + i) i
   run_recorded i k rest early within =
       let w = t.frame.words in
-      let frames = map (frame_read b w) (before_run ++ frames_from w q k ++ rest) in
-      let at : (e : ℕ) → e ≤ i → frame_at frames (length before_run + i - e) ≡ frame_read b w (q + 48 * w * (i - e)) = λ e near.
-      let index : length before_run + i - e ≡ length before_run + (i - e) = omega arith in
+      let frames = map (frame_read b w) (run_reached.frames ++ frames_from w q k ++ rest) in
+      let at : (e : ℕ) → e ≤ i → frame_at frames (length run_reached.frames + i - e) ≡ frame_read b w (q + 48 * w * (i - e)) = λ e near.
+      let index : length run_reached.frames + i - e ≡ length run_reached.frames + (i - e) = omega arith in
       ap (frame_at frames) index ∙ frame_at-run (i - e) k rest (omega arith) in
       record {
         read = omega arith;
@@ -271,39 +263,38 @@ module _ (t : TableRows) (records : List BusRecord) (b : List ℕ) (q j m : ℕ)
       let w = t.frame.words in
       let some = survives.not_empty in
       let behind = accepted_from b w (q + 48 * w * (m - 1) + 48 * w) in
-      let accepted : accepted_frames b w ≡ before_run ++ frames_from w q m ++ behind = unfold before_run in run_accepted in
       let recorded = run_recorded (m - 1) m behind (omega arith) (omega arith) in
       record {
-        before = before_run;
+        before = run_reached.frames;
         behind = behind;
-        accepted = accepted;
-        joined = rw accepted (recorded_joined t records _ (length before_run + (m - 1)) (j + (m - 1)) (m - 1) h recorded (m - 1) (omega arith));
+        accepted = run_accepted;
+        joined = rw run_accepted (recorded_joined t records _ (length run_reached.frames + (m - 1)) (j + (m - 1)) (m - 1) h recorded (m - 1) (omega arith));
       }
 
   -- the rows of frame i of the run, by the frames up to it
   rows_of_run : (i : ℕ) → i < m →
       rows_at t b (q + 48 * t.frame.words * i)
-      ≡ rows_of_frame t (map (frame_read b t.frame.words) (before_run ++ frames_from t.frame.words q (i + 1) ++ [])) (length before_run + i)
-  unfolding rows_at before_run
+      ≡ rows_of_frame t (map (frame_read b t.frame.words) (run_reached.frames ++ frames_from t.frame.words q (i + 1) ++ [])) (length run_reached.frames + i)
+  unfolding rows_at
   rows_of_run i early =
       let w = t.frame.words in
-      let to = before_run ++ frames_from w q (i + 1) in
+      let to = run_reached.frames ++ frames_from w q (i + 1) in
       let count : length (frames_from w q (i + 1)) ≡ i + 1 = length-map-range_with_len (λ i. q + 48 * w * i) 0 (i + 1) in
-      let last : length to - 1 ≡ length before_run + i = omega (arith, length-append before_run (frames_from w q (i + 1)), count) in
+      let last : length to - 1 ≡ length run_reached.frames + i = omega (arith, length-append run_reached.frames (frames_from w q (i + 1)), count) in
       ap (λ (xs : List ℕ). rows_of_frame t (map (frame_read b w) xs) (length xs - 1)) (accepted_to_run i early)
       ∙ ap (rows_of_frame t (map (frame_read b w) to)) last
-      ∙ ap (λ (xs : List ℕ). rows_of_frame t (map (frame_read b w) xs) (length before_run + i)) (sym (append-nil to))
+      ∙ ap (λ (xs : List ℕ). rows_of_frame t (map (frame_read b w) xs) (length run_reached.frames + i)) (sym (append-nil to))
 
   -- those that were sampled from frame j on are among them
   pub run_rows : (i : ℕ) → i < m → AreAmong (sampled_since t records j (j + i)) (rows_at t b (q + 48 * t.frame.words * i))
   run_rows i early =
-      subst (AreAmong (sampled_since t records j (j + i))) (sym (rows_of_run i early))
-      (recorded_since t records _ (length before_run + i) (j + i) i h (run_recorded i (i + 1) [] (omega arith) (omega arith)) j (omega arith))
+      rw (rows_of_run i early)
+      (recorded_since t records _ (length run_reached.frames + i) (j + i) i h (run_recorded i (i + 1) [] (omega arith) (omega arith)) j (omega arith))
 
   -- and where the superframe up to this frame lies within the run, there are no others
   pub run_all_rows : (i : ℕ) → i < m → (j + i) % 16 ≤ i → rows_at t b (q + 48 * t.frame.words * i) ≡ sampled_rows t records (j + i)
   run_all_rows i early whole =
-      rows_of_run i early ∙ recorded_rows t records _ (length before_run + i) (j + i) i h (run_recorded i (i + 1) [] (omega arith) (omega arith)) whole
+      rows_of_run i early ∙ recorded_rows t records _ (length run_reached.frames + i) (j + i) i h (run_recorded i (i + 1) [] (omega arith) (omega arith)) whole
 
   -- ---- their lines
 
@@ -338,16 +329,12 @@ module _ (t : TableRows) (records : List BusRecord) (b : List ℕ) (q j m : ℕ)
       let gap = gap_lines r.free q in
       let run = flat_map (lines_at t b) (frames_from w q m) in
       let first : q ≡ q + 48 * w * 0 = omega arith in
-      let come : lines_from r.free ≡ gap ++ lines_from q = lines_from_first t b r.free q some r.next
-      ∙ append_assoc gap (lines_of t b (Frame q)) (lines_from (q + 48 * w))
-      ∙ ap (λ (xs : List ℕ). gap ++ xs) (sym (lines_from_here t b q some (first_here b w q r.next.position))) in
+      let here = lines_from_here t b q some (first_here b w q r.next.position) in
+      let come : lines_from r.free ≡ gap ++ lines_from q = rw (lines_from_first t b r.free q some r.next, here, append_assoc) refl in
       let all : lines_from q ≡ run ++ lines_from (q + 48 * w * m) = ap lines_from first ∙ lines_from_run 0 m (omega arith) in (
         before ++ gap,
         lines_from (q + 48 * w * m),
-        ap (flat_map (lines_of t b)) r.decided ∙ flat_map-append (lines_of t b) r.events (events_from b w r.free)
-            ∙ ap (λ (xs : List ℕ). before ++ xs) (come ∙ ap (λ (xs : List ℕ). gap ++ xs) all)
-            ∙ sym (append_assoc before gap (run ++ lines_from (q + 48 * w * m)))
-            ∙ sym (append_assoc (before ++ gap) run (lines_from (q + 48 * w * m))),
+        rw r.decided (flat_map-append (lines_of t b) r.events (events_from b w r.free) ∙ rw (come, all, append_assoc, append_assoc) refl),
       )
 
 -- the first whole frames of a recording survive in its own bytes

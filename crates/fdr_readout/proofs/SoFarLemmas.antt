@@ -49,7 +49,7 @@ module _ (b : List ℕ) (w free p : ℕ) (xs : List ℕ) (some : 0 < w) (so_far 
   accepted_to_next =
       let behind = next.behind in
       ap (filter (λ x. nat_le x p)) (all_split ∙ append_assoc xs (p ∷ []) (accepted_from b w (p + 48 * w)))
-      ∙ filter_to xs (accepted_from b w (p + 48 * w)) p (λ k d h. omega (arith, so_far.before k d h)) (λ k d h. omega (arith, accepted_behind b w (p + 48 * w) k d h))
+      ∙ filter_to xs (accepted_from b w (p + 48 * w)) p (λ k d h. omega (arith, so_far.before k d h)) (λ k d h. omega (arith, accepted_behind b w _ k d h))
 
   none_ends_at : (ys : List ℕ) → All (λ x. x + 48 * w ≡ p → ⊥) ys → list_any (λ x. eqb (x + 48 * w) p) ys ≡ false
   none_ends_at ys h = list_any_none (λ x. eqb (x + 48 * w) p) ys (λ k d i. ne_eqb _ p (h k d i))

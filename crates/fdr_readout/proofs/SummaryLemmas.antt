@@ -100,20 +100,13 @@ few_listed t b sound = few_rows t b (accepted_frames b t.frame.words) sound
 
 -- ---- the summary
 
-no_wrap : (now n : ℕ) → now < 2 ^ 64 → n < 2 ^ 64 → now % 2 ^ 64 ≡ (0 + n) % 2 ^ 64 → now ≡ n
-no_wrap now n small few e = omega arith
-
-last_bits : (now n : ℕ) → now < 2 ^ 64 → now % 2 ^ 64 ≡ (0 + n) % 2 ^ 64 → now ≡ n % 2 ^ 64
-last_bits now n small e = omega arith
-
 -- what is counted from nothing on, of entries of which the frames and the rows are known
 pub counted_is : (entries : List Entry) (frames : ℕ) (rows : List Row) (now : Summary)
     → length (filter is_frame_entry entries) ≡ frames → rows_among entries ≡ rows → frames < 2 ^ 64 → length rows < 2 ^ 64 → Tallies no_summary now entries
     → now ≡ record { frames = frames; rows = length rows; sum = sum_by value_bits rows % 2 ^ 64 }
 counted_is entries frames rows now frames_are rows_are few_frames few_rows h =
     let fits = h.fits (record { frames = omega arith; rows = omega arith; sum = omega arith }) in
-    rw (
-      ← no_wrap now.frames frames fits.frames few_frames (rw frames_are at h.frames),
-      ← no_wrap now.rows (length rows) fits.rows few_rows (rw rows_are at h.rows),
-      ← last_bits now.sum (sum_by value_bits rows) fits.sum (rw rows_are at h.sum),
-    ) refl
+    let frames_now : now.frames ≡ frames = omega (arith, rw frames_are at h.frames, fits.frames) in
+    let rows_now : now.rows ≡ length rows = omega (arith, rw rows_are at h.rows, fits.rows) in
+    let sum_now : now.sum ≡ sum_by value_bits rows % 2 ^ 64 = omega (arith, rw rows_are at h.sum, fits.sum) in
+    rw (← frames_now, ← rows_now, ← sum_now) refl

@@ -10,14 +10,6 @@ use Rattle.fdr_recon.specs.Rows.{param_at}
 use Rattle.fdr_readout.specs.Listing.{row_line_of}
 use Rattle.fdr_readout.specs.Places.{place_text}
 
--- the text of the place of a subframe and a word
-place_text_is : (subframe word : ℕ) → 1 ≤ subframe → 1 ≤ word → word ≤ 1024
-    → place_text (1024 * (subframe - 1) + (word - 1)) ≡ row_place_text subframe word
-place_text_is subframe word low first last =
-    let s : (1024 * (subframe - 1) + (word - 1)) / 1024 + 1 ≡ subframe = omega arith in
-    let v : (1024 * (subframe - 1) + (word - 1)) % 1024 + 1 ≡ word = omega arith in
-    rw (s, v) refl
-
 -- what is among ready texts
 pub ready_text : (f : ℕ → List ℕ) (texts : List (List ℕ)) (n : ℕ) (text : List ℕ) → texts ≡ map f (range_with_len 0 4096) → n < 4096
     → text ≡ get_or texts n text → text ≡ f n
@@ -29,7 +21,9 @@ pub ready_at : (texts : List (List ℕ)) (subframe word : ℕ) (text : List ℕ)
     → 1 ≤ subframe → subframe ≤ 4 → 1 ≤ word → word ≤ 1024 → text ≡ get_or texts (1024 * (subframe - 1) + (word - 1)) text
     → text ≡ row_place_text subframe word
 ready_at texts subframe word text ready low high first last at =
-    ready_text place_text texts (1024 * (subframe - 1) + (word - 1)) text ready (omega arith) at ∙ place_text_is subframe word low first last
+    let s : (1024 * (subframe - 1) + (word - 1)) / 1024 + 1 ≡ subframe = omega arith in
+    let v : (1024 * (subframe - 1) + (word - 1)) % 1024 + 1 ≡ word = omega arith in
+    ready_text place_text texts (1024 * (subframe - 1) + (word - 1)) text ready (omega arith) at ∙ rw (s, v) refl
 
 pub written_row : (t : TableRows) (r : Row) (p : ParamRow) (start place : List ℕ) → param_at t.params r.param ≡ p
     → start ≡ row_start_text r.counter → place ≡ row_place_text r.subframe r.word

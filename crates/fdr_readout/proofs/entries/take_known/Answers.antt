@@ -19,8 +19,7 @@ loop-event-init g c = record {
     [],
     subst (λ es. ReadsEvents c.args.table.now c.args.reader.now (record past { taken = es })) (sym (append-nil past.taken)) reads,
     g.met.T.Taker.laws.nothing _ _ _,
-    λ more may. ap (entries_in c.args.table.now (past.bytes ++ more)) (append-nil past.taken)
-        ∙ sym (append-nil (entries_in c.args.table.now (past.bytes ++ more) past.taken)),
+    λ more may. rw (append-nil, append-nil) refl,
   );
   pushed = refl;
   ended = refl;
