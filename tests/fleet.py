@@ -285,9 +285,43 @@ def worker(folder: pathlib.Path, address: str) -> contextlib.AbstractContextMana
     return started(words, cwd=folder, env={name: value for name, value in os.environ.items() if name != "PYTHONPATH"})
 
 
+def mixed_flights(room: Room) -> str:
+    """Whole and damaged flights, one that is refused, one that isn't there, and a table that is wrong for a folder: by a cluster of its
+    own, and by a scheduler and two workers that are there."""
+    whole = damaged_images.whole_image()
+    holes, bits = damaged_images.closed(whole, [30, 31, 150]), inputs.FIVES[:1000] + b"x" + inputs.FIVES[1000:]
+    flights = {"right/whole.img": whole, "right/holes.img": holes, "right/damaged.bits": bits, "right/short.img": whole[:1000], "wrong/whole.img": whole}
+    for name, data in flights.items():
+        (room.folder / name).parent.mkdir(exist_ok=True)
+        (room.folder / name).write_bytes(data)
+    (room.folder / "wrong.csv").write_text(T1.read_text() + "P,NEW,0,203\n")
+    (room.folder / "tables").write_text(f"right/*,{T1}\nwrong/*,wrong.csv\n")
+    own = [room.folder / name for name in (*flights, "right/gone.img")]
+    words = [FLIGHT, "fleet", *own, "--table-of", room.folder / "tables", "--rules", room.folder / "rules", "--fdr", room.program]
+    run([str(word) for word in (*words, "-o", room.folder / "own", "--workers", 2)], 2)
+    with scheduler(room.folder) as (address, _), worker(room.folder, address), worker(room.folder, address):
+        run([str(word) for word in (*words, "-o", room.folder / "there", "--scheduler", address)], 2)
+    told = [(row["status"], row["said"]) for row in room.rows("own")]
+    wanted = [("done", "")] * 3 + [("refused", "fdr: image: shorter than its ring"), ("refused", "fdr: table row 3: shape")]
+    check(told == [*wanted, ("missing", "No such file or directory")], told)
+    check([row["runs"] for row in room.rows("own")[:3]] == ["1", "3", ""], "another number of runs")
+    check(room.rows("own") == room.rows("there"), "the scheduler that is there has other rows")
+    check(room.exceedances("own") == room.exceedances("there") and room.exceedances("own").count("\n") > 3, "other exceedances")
+    return f"{len(own)} flights alike by both clusters"
+
+
 def real_scheduler(room: Room) -> str:
-    """A scheduler and two workers that are there: one worker is killed; then the scheduler is, and the fleet begun again."""
+    """A scheduler and two workers that are there: the client is killed, and begun again; one worker is; then the scheduler is, and the
+    fleet begun again."""
     with scheduler(room.folder) as (address, _), worker(room.folder, address), worker(room.folder, address) as second:
+        with started(room.words("begun", "--scheduler", address)) as client:
+            wait_until(lambda: room.journal("begun") > room.count // 4 or client.poll() is not None, "a quarter of the flights")
+            client.kill()
+            client.wait(timeout=60)
+        begun = room.journal("begun")
+        check(begun < room.count, "the client was killed too late")
+        run(room.words("begun", "--scheduler", address))
+        room.check_all("begun")
         with started(room.words("real", "--scheduler", address)) as client:
             wait_until(lambda: room.journal("real") > room.count // 4 or client.poll() is not None, "a quarter of the flights")
             second.kill()
@@ -304,7 +338,7 @@ def real_scheduler(room: Room) -> str:
         run(room.words("gone", "--scheduler", address))
     room.check_all("gone")
     check(0 < left < room.count, f"{left} flights were left")
-    return f"a worker and a scheduler killed, {left} flights read after it"
+    return f"a client, a worker and a scheduler killed, {room.count - begun} and {left} flights read after the first and the last"
 
 
 def workers_that_join(room: Room) -> str:
@@ -338,6 +372,7 @@ CASES: list[tuple[str, Callable[[Room], str], int]] = [
     ("many flights", many_flights, 1),
     ("killed workers", killed_workers, 8),
     ("killed clients", killed_clients, 8),
+    ("mixed flights", mixed_flights, 1000),
     ("a real scheduler", real_scheduler, 8),
     ("workers that join", workers_that_join, 8),
     ("no scheduler", no_scheduler, 1000),
