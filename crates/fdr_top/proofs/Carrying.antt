@@ -3,6 +3,7 @@ use Rattle.std.proofs.Common.{◌≡◌, ◌≢◌, ◌⊎◌, ⊎_elim, inl, in
 use Rattle.std.specs.Prelude.{IfSome, IsSome, false, true}
 use Rattle.fdr_io.specs.Faults.{Rose}
 use Rattle.fdr_io.specs.Told.{preceded_by}
+use Rattle.fdr_io.proofs.Telling.{preceded_by-nil}
 use Rattle.fdr_io.specs.declared.Input.TheVariants as input
 use Rattle.fdr_deck.specs.State.{State, Tells}
 use Rattle.fdr_deck.specs.Moments.{IsSoundDeck}
@@ -35,12 +36,15 @@ use Rattle.fdr_top.proofs.RecoveredImages.{recovers_nothing}
 use Rattle.fdr_top.proofs.ItsTable.{accepted_left, by_table, read_accepted}
 use Rattle.fdr_top.proofs.ListedImages.{lists_nothing}
 use Rattle.fdr_top.proofs.Making.{makes_nothing, table_or, table_told}
-use Rattle.fdr_load.proofs.Pieces.{TakesAtMost-none}
 use Rattle.fdr_top.proofs.Readable.{records_nothing}
 use Rattle.fdr_top.proofs.TableAnswers.{table_not_past, taken_is_all}
 use Rattle.fdr_top.proofs.Salvages.{salvages_nothing}
 use Rattle.fdr_top.proofs.ExceededImages.{exceeds_nothing}
 use Rattle.fdr_top.proofs.Upgrades.{upgrades_nothing}
+
+-- no bytes of a table are few
+pub TakesAtMost-none : (n : ℕ) (told : Option (List ℕ)) → TakesAtMost n told told
+TakesAtMost-none n told = ([], omega arith, sym (preceded_by-nil told))
 
 -- a run that changed nothing
 abbrev pub idle : Tells → State → Option (List ℕ) → ℕ → Outcome → WorkRun

@@ -1,11 +1,10 @@
 use Rattle.std.proofs.Common.{refl, [], None, ap, inr, Err, rules}
 use Rattle.fdr_words.specs.Forms.{decode_levels, encode_bytes, recover_image, upgrade_image}
 use Rattle.fdr_words.specs.Request.{form_of_request}
-use Rattle.fdr_top.proofs.Carrying.{carried, carried_alone, table_refused}
+use Rattle.fdr_top.proofs.Carrying.{TakesAtMost-none, carried, carried_alone, table_refused}
 use Rattle.fdr_top.proofs.Commands.{own_uses, request_reads}
 use Rattle.fdr_top.proofs.ItsTable.{read_refused}
 use Rattle.fdr_top.proofs.Making.{table_or}
-use Rattle.fdr_load.proofs.Pieces.{TakesAtMost-none}
 use Rattle.fdr_top.proofs.top.carry_out.Goals as goal
 
 pub returns-in-RecoverImage-clause-runs : goal.returns-in-RecoverImage-clause-runs
