@@ -116,6 +116,21 @@ def of_record(bench: Bench, between: Between, image: Image, is_lost: bool) -> No
     again(bench, bench.recording("record", [image], shape, 3))
 
 
+def write_beside(bench: Bench) -> None:
+    """Writes another file of the first disk, and makes it durable; where the file system has given up, once it was mounted anew. The
+    first sync of an upgrade is one of the folder too, so a fault in it may be one of the journal."""
+    other = bench.disks.places[0] / "other"
+    try:
+        other.write_bytes(bench.chance.randbytes(3000))
+        bench.sync_file(other)
+    except OSError as error:
+        if error.errno not in (errno.EROFS, errno.EIO):
+            raise
+        bench.disks.mount_anew(0)
+        other.write_bytes(bench.chance.randbytes(3000))
+        bench.sync_file(other)
+
+
 def of_upgrade(bench: Bench, between: Between, image: Image, is_lost: bool) -> None:
     """An upgrade meets a fault, and is given again."""
     shape = bench.chance.choice([(8, 64), (5, 4096)])
@@ -127,10 +142,8 @@ def of_upgrade(bench: Bench, between: Between, image: Image, is_lost: bool) -> N
         between(bench, image)
         again(bench, Run("upgrade", (image,)))
     # What others write and make durable is no help to it.
-    other = bench.disks.places[0] / "other"
     for _ in range(3):
-        other.write_bytes(bench.chance.randbytes(3000))
-        bench.sync_file(other)
+        write_beside(bench)
 
 
 def of_pair(bench: Bench, between: Between, images: Sequence[Image], is_lost: bool) -> None:
