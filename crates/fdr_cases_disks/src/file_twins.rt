@@ -113,6 +113,15 @@ fn each_side_is_a_file(rt: HostRuntime) {
     remove_both(&rt, "first.img", "second.img");
 }
 
+// Whether the first side goes on alone, where the second file becomes shorter after it was written.
+fn goes_on_alone<T: Twin>(rt: &(impl Files + Abort), second: &str, twin: &mut T) -> bool {
+    let is_stored = store(twin, Side::Second, 8).is_ok();
+    put(rt, second, b"abc");
+    let goes_on = goes_on_with_the_first(twin);
+    announce_some(twin);
+    is_stored && goes_on
+}
+
 // Records on two files, of which the second becomes shorter after its length was learned.
 fn record_on_the_first(
     rt: &(impl Files<File = File> + Abort),
@@ -121,10 +130,7 @@ fn record_on_the_first(
     lines: &mut Vec<u8>,
 ) {
     let mut twin = twin_at(rt, first, second, b"", lines);
-    assert!(rt; store(&mut twin, Side::Second, 8).is_ok());
-    put(rt, second, b"abc");
-    assert!(rt; goes_on_with_the_first(&mut twin));
-    announce_some(&mut twin);
+    assert!(rt; goes_on_alone(rt, second, &mut twin));
 }
 
 #[test]
@@ -174,6 +180,11 @@ fn each_call_that_fails_is_told_of_its_side_once(rt: HostRuntime) {
     }
 }
 
+// Whether the length of each side is answered.
+fn are_measured<T: Twin>(twin: &mut T) -> bool {
+    make(twin, Side::First, Call::Size).is_ok() && make(twin, Side::Second, Call::Size).is_ok()
+}
+
 // Measures two files, of which the second isn't there.
 fn measure_both(
     rt: &(impl Files<File = File> + Abort),
@@ -182,8 +193,7 @@ fn measure_both(
     lines: &mut Vec<u8>,
 ) -> (Option<ErrorKind>, Option<ErrorKind>) {
     let mut twin = twin_at(rt, first, second, b"", lines);
-    assert!(rt; make(&mut twin, Side::First, Call::Size).is_ok());
-    assert!(rt; make(&mut twin, Side::Second, Call::Size).is_ok());
+    assert!(rt; are_measured(&mut twin));
     (twin.why(Side::First), twin.why(Side::Second))
 }
 
@@ -196,12 +206,17 @@ fn a_file_that_is_missing_is_no_fault(rt: HostRuntime) {
     remove(&rt, "there.img");
 }
 
+// Whether the first side can be written, and synced.
+fn write_and_sync<T: Twin>(twin: &mut T) -> (bool, bool) {
+    let is_written = make(twin, Side::First, Call::Write).is_ok();
+    let is_synced = make(twin, Side::First, Call::Sync).is_ok();
+    (is_written, is_synced)
+}
+
 // Whether the first of two files can be written, and synced, where its folder is another file.
 fn sync_in_another_folder<R: Files<File = File>>(files: &R, lines: &mut Vec<u8>) -> (bool, bool) {
     let mut twin = twin_at(files, "named.img", "other.img", b"", lines);
-    let is_written = make(&mut twin, Side::First, Call::Write).is_ok();
-    let is_synced = make(&mut twin, Side::First, Call::Sync).is_ok();
-    (is_written, is_synced)
+    write_and_sync(&mut twin)
 }
 
 // The first sync of a file is one of its name too.
