@@ -1,12 +1,13 @@
 """Listings as a user has them: damaged ones, of another table, of memories that wrap; from the listing to pandas."""
 
+import fcntl
 import io
 import json
 import pathlib
 import re
 import subprocess
 import sys
-from typing import Any, Callable
+from typing import Any, Callable, cast
 
 import numpy as np
 import pandas
@@ -14,6 +15,7 @@ import pytest
 
 import encoder
 from conftest import ORDINARY, T1, TOP, Tool, Write
+from flight_recorder import hdf
 
 sys.path.insert(0, str(TOP / "tests"))
 
@@ -490,6 +492,12 @@ def test_where_a_file_of_hdf5_came_from(flight: Tool, write: Write, tmp_path: pa
             assert (about["listing"], about["table"], about["words"]) == (str(path), str(T1), "64")
             assert about["listing_sha256"] == hashlib.sha256(path.read_bytes()).hexdigest()
             assert about["made_by"].startswith("flight ")
+
+
+def test_a_file_of_hdf5_is_written_without_a_lock(tmp_path: pathlib.Path) -> None:
+    path = tmp_path / "f.h5"
+    with hdf.Store(path, cast(Any, None)), open(path, "rb") as other:
+        fcntl.flock(other, fcntl.LOCK_EX | fcntl.LOCK_NB)
 
 
 def test_wide_tables_and_grids_as_hdf5(flight: Tool, write: Write, hour: str, tmp_path: pathlib.Path) -> None:

@@ -3,6 +3,7 @@ texts by their numbers in a list of them."""
 
 import datetime
 import io
+import os
 import pathlib
 import warnings
 
@@ -24,6 +25,9 @@ NO_SESSION = -1
 MARKS = ["", "(doubtful)", "part 2", "part 3"]
 PACKING = {"complevel": 1, "complib": "zlib"}
 assert pytables  # pandas needs it
+# Nobody else knows the name of a file that is being written, so the library needs no lock on it. One that a copy of its handle
+# in another process kept would refuse whoever reads the whole file.
+os.environ.setdefault("HDF5_USE_FILE_LOCKING", "FALSE")
 
 
 class Store:
