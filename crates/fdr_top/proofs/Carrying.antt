@@ -231,7 +231,7 @@ does_nothing (record_line path image) r tells d written s answer same sound read
     rw same (records_nothing tells r.rest_before r.rest_now d answer sound (table_not_past answer of))
 does_nothing (recover_image image) r tells d written s answer same sound reads of = absurd (let e : false ≡ true = reads in cc)
 does_nothing (list_image path image) r tells d written s answer same sound reads of =
-    rw same (lists_nothing tells r.rest_before r.rest_now d written answer sound (inr of))
+    rw same (lists_nothing tells r.rest_before r.rest_now d written _ _ answer sound (inr of))
 does_nothing (upgrade_image image) r tells d written s answer same sound reads of = absurd (let e : false ≡ true = reads in cc)
 does_nothing (salvage_image path image ring) r tells d written s answer same sound reads of =
     rw same (salvages_nothing ring tells r.rest_before r.rest_now d written answer sound (inr of))

@@ -28,6 +28,7 @@ pub mod SourceEnds
 pub mod Openings
 pub mod Coding
 pub mod Coded
+pub mod ReadLines
 pub mod ListedImages
 pub mod Salvages
 pub mod Sizes

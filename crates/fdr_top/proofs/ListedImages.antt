@@ -1,17 +1,21 @@
 -- What listing an image leaves and answers.
 use Rattle.std.proofs.Common.{◌≡◌, ◌≢◌, ◌⊎◌, ⊎_elim, inl, inr, ℕ, ◌<◌, ◌≤◌, List, [], Option, Some, None, ap, sym, refl, ◌∙◌, subst, arith}
 use Rattle.std.specs.Prelude.{IsTrue, ◌↔◌, take}
+use Rattle.fdr_io.specs.Faults.{Rose}
 use Rattle.fdr_io.specs.Told.{followed_by}
 use Rattle.fdr_io.specs.declared.Input.TheVariants as input
 use Rattle.fdr_io.proofs.Telling.{followed_by-nil}
 use Rattle.fdr_deck.specs.State.{State, Tells}
 use Rattle.fdr_deck.specs.Moments.{IsSoundDeck}
+use Rattle.fdr_frame.specs.WordCount.{IsWordCount}
 use Rattle.fdr_slot.specs.Places.{image_size}
 use Rattle.fdr_slot.specs.declared.image.Header.{Header}
 use Rattle.fdr_slot.specs.declared.image.ImageFault.{ImageFault}
 use Rattle.fdr_slot.specs.declared.image.ImageFault.TheVariants as fault
+use Rattle.fdr_recover.specs.Blocks.{Block}
 use Rattle.fdr_recover.specs.Images.{recovered_run}
 use Rattle.fdr_recover.specs.Looks.{Looks}
+use Rattle.fdr_recover.specs.Payloads.{run_in}
 use Rattle.fdr_recover.specs.ImageHeader.{image_fault_of, header_in, IsFor}
 use Rattle.fdr_recover.specs.declared.error.HeaderFault.{HeaderFault}
 use Rattle.fdr_recover.specs.declared.error.HeaderFault.TheVariants as header
@@ -19,7 +23,7 @@ use Rattle.fdr_table.specs.Rows.{TableRows}
 use Rattle.fdr_words.specs.Forms.{drill_image, list_image, salvage_image}
 use Rattle.fdr_top.specs.Stages.{IsOfTable, IsPastTable, WritesNothing}
 use Rattle.fdr_top.specs.Answers.{IsOwn}
-use Rattle.fdr_top.specs.List.{RefusesOpening, ListsImage, listing_in, opening_refusal}
+use Rattle.fdr_top.specs.List.{RefusesOpening, ListsImage, ListsRead, listing_in, opening_refusal}
 use Rattle.fdr_top.specs.Sessions.{listing_of_blocks}
 use Rattle.fdr_top.specs.Refusals.{RefusesImage}
 use Rattle.fdr_top.specs.Recover.{OnlyLooks}
@@ -28,6 +32,7 @@ use Rattle.fdr_top.specs.Tables.{ByTable}
 use Rattle.fdr_top.specs.declared.outcome.Outcome.{Outcome}
 use Rattle.fdr_top.specs.declared.outcome.Outcome.TheVariants as outcome
 use Rattle.fdr_top.proofs.Images.{OnlyLooks-here, OnlyLooks-then, run_same}
+use Rattle.fdr_top.proofs.ReadLines.{none_listed}
 use Rattle.fdr_top.proofs.RecordLines.{disk_failed, image_refused, no_differ, no_first, refuses_nothing, takes_image}
 use Rattle.fdr_top.proofs.TableAnswers.{past_not_memory, table_not_past}
 
@@ -86,12 +91,14 @@ pub shut_not_write : (answer : Outcome) → RefusesOpening answer → answer ≡
 shut_not_write answer shut e = rw e at shut
 
 -- where the image isn't opened
-pub unlisted : (t : TableRows) (tells : Tells) (old new : State) (written : Option (List ℕ)) (answer : Outcome) → OnlyLooks tells old new
-    → RefusesOpening answer → RefusesImage t tells old new answer → ListsImage t tells old new written written answer
-unlisted t tells old new written answer looks shut image = record {
+pub unlisted : (t : TableRows) (tells : Tells) (old new : State) (written : Option (List ℕ)) (before now : ℕ) (answer : Outcome)
+    → IsWordCount t.frame.words → OnlyLooks tells old new → RefusesOpening answer → RefusesImage t tells old new answer
+    → ListsImage t tells old new written written before now answer
+unlisted t tells old new written before now answer count looks shut image = record {
   looks = looks;
   text = λ done told. absurd (shut_not_done answer shut done);
   part = λ told. (0, sym (followed_by-nil written));
+  drained = λ fails told none. none_listed t _ _ written count;
   good = λ either told. absurd (⊎_elim (shut_not_done answer shut) (shut_not_write answer shut) either);
   begun = inl refl;
   image = image;
@@ -125,13 +132,15 @@ pub of_blocks_drill : (path image : List ℕ) (seed frames : ℕ) (answer : Outc
 of_blocks_drill path image seed frames answer = of_blocks (λ (a : Outcome). IsOwn (drill_image path image seed frames) a) answer tt tt tt
 
 -- where the blocks are read and their bits listed
-pub blocks_listed : (t : TableRows) (tells : Tells) (old mid new : State) (h : Header) (before now : Option (List ℕ)) (answer : Outcome) → IsSoundDeck tells old
-    → OnlyLooks tells old mid → Looks tells mid new → (IsTrue tells.bytes → h ≡ header_in old.held)
+pub blocks_listed : (t : TableRows) (tells : Tells) (old mid new : State) (h : Header) (before now : Option (List ℕ)) (sink_before sink_now : ℕ)
+    (answer : Outcome) → IsSoundDeck tells old → OnlyLooks tells old mid → Looks tells mid new → (IsTrue tells.bytes → h ≡ header_in old.held)
     → (IsTrue tells.bytes → IsFor t.frame.words old.held) → image_size h ≤ mid.extent → IsOfBlocks answer
     → (answer ≡ outcome.Done → IsTrue tells.bytes → now ≡ followed_by before (listing_of_blocks t h.version (recovered_run h mid.held)))
     → (IsTrue tells.bytes → (k : ℕ) × (now ≡ followed_by before (take k (listing_of_blocks t h.version (recovered_run h mid.held)))))
-    → ListsImage t tells old new before now answer
-blocks_listed t tells old mid new h before now answer sound first second header for long of text part =
+    → (answer ≡ outcome.DiskFault → IsTrue tells.bytes → (Rose sink_before sink_now → ⊥)
+    → ListsRead t h.version (recovered_run h mid.held) before now)
+    → ListsImage t tells old new before now sink_before sink_now answer
+blocks_listed t tells old mid new h before now sink_before sink_now answer sound first second header for long of text part drained =
     let listed : IsTrue tells.bytes → listing_of_blocks t h.version (recovered_run h mid.held) ≡ listing_in t old.held = λ told.
     ap (λ (x : Header). listing_of_blocks t x.version (recovered_run h mid.held)) (header told)
     ∙ ap (listing_of_blocks t (header_in old.held).version) (run_same tells old mid h first header told) in
@@ -139,6 +148,10 @@ blocks_listed t tells old mid new h before now answer sound first second header 
       looks = OnlyLooks-then tells old mid new sound first second;
       text = λ done told. text done told ∙ ap (followed_by before) (listed told);
       part = λ told. let p = part told in (p.0, p.1 ∙ ap (λ (l : List ℕ). followed_by before (take p.0 l)) (listed told));
+      drained = λ fails told none.
+          let run = run_same tells old mid h first header told in
+          subst (λ (v : ℕ). ListsRead t v (run_in old.held) before now) (ap (λ (x : Header). x.version) (header told))
+          (subst (λ (l : List Block). ListsRead t h.version l before now) run (drained fails told none));
       good = λ either told. for told;
       begun = inr for;
       image = takes_image t tells old new answer (of_blocks_begun answer of) (λ short. omega (arith, short, second.extent, long)) for;
@@ -150,10 +163,10 @@ any_table None = (table_in [], λ bytes told. absurd (cc))
 any_table (Some found) = (table_in found, λ bytes told. let same : found ≡ bytes = cc in ap table_in same)
 
 -- where the table isn't read, the deck isn't touched and nothing is listed
-pub lists_nothing : (tells : Tells) (rest now : Option (List ℕ)) (d : State) (written : Option (List ℕ)) (answer : Outcome) → IsSoundDeck tells d
-    → (answer ≡ outcome.NoMemory) ⊎ IsOfTable answer
-    → ByTable rest now answer (λ (t : TableRows). ListsImage t tells d d written written answer)
-lists_nothing tells rest now d written answer sound either =
+pub lists_nothing : (tells : Tells) (rest now : Option (List ℕ)) (d : State) (written : Option (List ℕ)) (before after : ℕ) (answer : Outcome)
+    → IsSoundDeck tells d → (answer ≡ outcome.NoMemory) ⊎ IsOfTable answer
+    → ByTable rest now answer (λ (t : TableRows). ListsImage t tells d d written written before after answer)
+lists_nothing tells rest now d written before after answer sound either =
     let early : IsPastTable answer → ⊥ = λ past. ⊎_elim
     (λ (m : answer ≡ outcome.NoMemory). past_not_memory answer past m)
     (λ (of : IsOfTable answer). table_not_past answer of past) either in
@@ -166,6 +179,7 @@ lists_nothing tells rest now d written answer sound either =
         looks = OnlyLooks-here tells d sound;
         text = λ done told. absurd (not outcome.Done tt done);
         part = λ told. (0, sym (followed_by-nil written));
+        drained = λ fails told none. absurd (not outcome.DiskFault tt fails);
         good = λ either told. absurd (⊎_elim (not outcome.Done tt) (not outcome.WriteFault tt) either);
         begun = inl refl;
         image = refuses_nothing found.0 tells d d answer early;
@@ -173,20 +187,20 @@ lists_nothing tells rest now d written answer sound either =
     )
 
 -- the image is for the table's frames, and nothing fails: its bits are listed, or memory ended
-pub list_done : (path image : List ℕ) (t : TableRows) (tells : Tells) (old new : State) (before now : Option (List ℕ)) (answer : Outcome)
-    → (answer ≡ outcome.NoMemory) ⊎ IsOwn (list_image path image) answer → ListsImage t tells old new before now answer
+pub list_done : (path image : List ℕ) (t : TableRows) (tells : Tells) (old new : State) (before now : Option (List ℕ)) (f_before f_now : ℕ) (answer : Outcome)
+    → (answer ≡ outcome.NoMemory) ⊎ IsOwn (list_image path image) answer → ListsImage t tells old new before now f_before f_now answer
     → IsTrue tells.bytes → IsFor t.frame.words old.held → (answer ≡ outcome.DiskFault → ⊥) → (answer ≡ outcome.WriteFault → ⊥)
     → (answer ≡ outcome.Done) ⊎ (answer ≡ outcome.NoMemory)
-list_done path image t tells old new before now outcome.Done of lists told for disk sink = inl refl
-list_done path image t tells old new before now (outcome.ImageRefused why) of lists told for disk sink =
+list_done path image t tells old new before now f_before f_now outcome.Done of lists told for disk sink = inl refl
+list_done path image t tells old new before now f_before f_now (outcome.ImageRefused why) of lists told for disk sink =
     absurd (no_first old.held why for.no_fault (lists.image.header.refused why refl told))
-list_done path image t tells old new before now (outcome.WordsDiffer words table) of lists told for disk sink =
+list_done path image t tells old new before now f_before f_now (outcome.WordsDiffer words table) of lists told for disk sink =
     absurd (no_differ t tells old new (outcome.WordsDiffer words table) words table lists.image told for refl)
-list_done path image t tells old new before now outcome.WriteFault of lists told for disk sink = absurd (sink refl)
-list_done path image t tells old new before now outcome.DiskFault of lists told for disk sink = absurd (disk refl)
-list_done path image t tells old new before now outcome.NoMemory of lists told for disk sink = inr refl
-list_done path image t tells old new before now (outcome.ReadFault input.Table) of lists told for disk sink =
+list_done path image t tells old new before now f_before f_now outcome.WriteFault of lists told for disk sink = absurd (sink refl)
+list_done path image t tells old new before now f_before f_now outcome.DiskFault of lists told for disk sink = absurd (disk refl)
+list_done path image t tells old new before now f_before f_now outcome.NoMemory of lists told for disk sink = inr refl
+list_done path image t tells old new before now f_before f_now (outcome.ReadFault input.Table) of lists told for disk sink =
     ⊎_elim (λ memory. absurd (cc)) (λ own. absurd own) of
-list_done path image t tells old new before now (outcome.ReadFault input.Line) of lists told for disk sink =
+list_done path image t tells old new before now f_before f_now (outcome.ReadFault input.Line) of lists told for disk sink =
     ⊎_elim (λ memory. absurd (cc)) (λ own. absurd own) of
-list_done path image t tells old new before now answer of lists told for disk sink = ⊎_elim (λ memory. inr memory) (λ own. absurd own) of
+list_done path image t tells old new before now f_before f_now answer of lists told for disk sink = ⊎_elim (λ memory. inr memory) (λ own. absurd own) of

@@ -78,7 +78,8 @@ module _ (table path : List ℕ) (r : CommandRun) (told : IsTold (list_image tab
   abbrev lists : TableRows → Effect
   lists t = by_image t r.work.old.held (listed t)
 
-  module _ (t : TableRows) (does : ListsImage t r.work.tells r.work.old r.work.new r.work.written_before r.work.written_now r.work.answer) where
+  module _ (t : TableRows) (does : ListsImage t r.work.tells r.work.old r.work.new r.work.written_before r.work.written_now r.work.sink_before
+      r.work.sink_now r.work.answer) where
     list_left : Becomes stays r.work.tells r.work.old r.work.new
     list_left = looked r.work.tells r.work.old r.work.new (told.image tt) does.looks
 

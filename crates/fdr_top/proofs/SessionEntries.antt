@@ -1,11 +1,16 @@
 -- What is taken of blocks that come one after another, session by session.
 use Rattle.std.proofs.Common.{◌≡◌, ◌≢◌, ◌⊎◌, ⊎_elim, ℕ, ◌+◌, ◌<◌, ◌≤◌, ◌==◌, true, false, cond, List, [], ◌∷◌, ◌++◌, length, Option, Some, None, ap, sym}
-use Rattle.std.proofs.Common.{refl, ◌∙◌, subst, arith, append_assoc, append-nil, length-append}
+use Rattle.std.proofs.Common.{refl, ◌∙◌, ◌-◌, ap₂, drop, take, subst, arith, append_assoc, append-nil, length-append}
 use Rattle.std.specs.List.{flat_map}
+use Rattle.std.proofs.Math.Seq.{drop-append_seam, take-append_seam}
 use Rattle.std.proofs.lemmas.Grind.{flat_map-append}
 use Rattle.std.proofs.lemmas.Bool.{cond-false}
 use Rattle.std.proofs.lemmas.Bool.Decides.{eqb_tells}
 use Rattle.fdr_frame.specs.WordCount.{IsWordCount}
+use Rattle.fdr_sync.specs.Events.{decided_events}
+use Rattle.fdr_sync.proofs.EventSteps.{decided_from_none}
+use Rattle.fdr_sync.proofs.FrameLemmas.{none_in_few_bytes}
+use Rattle.fdr_sync.proofs.FrameSteps.{word_count_some}
 use Rattle.fdr_recover.specs.Blocks.{Block}
 use Rattle.fdr_recover.specs.Payloads.{payloads_of}
 use Rattle.fdr_recover.proofs.Between.{payloads-push}
@@ -14,14 +19,15 @@ use Rattle.fdr_table.specs.Rows.{TableRows}
 use Rattle.fdr_readout.specs.declared.events.EventReader.{EventReader}
 use Rattle.fdr_readout.specs.Entries.{Entry, LineEntry, entries_of, entry_lines}
 use Rattle.fdr_readout.specs.Listing.{listing_of}
-use Rattle.fdr_readout.specs.Reading.{ReadsEvents, decided_past}
+use Rattle.fdr_readout.specs.Reading.{ReadsEvents, decided_past, entries_in}
 use Rattle.fdr_readout.specs.Taken.{HasTaken}
 use Rattle.fdr_readout.specs.Takers.{TakerLaws}
 use Rattle.fdr_readout.proofs.EntryLemmas.{lines_of_entries}
 use Rattle.fdr_readout.proofs.Taking.{nothing_listed, taken_first, taken_nothing}
 use Rattle.fdr_top.specs.Sessions.{are_of_one_session, entries_of_blocks, listing_of_blocks, session_entries, session_line, session_listing, session_text}
 use Rattle.fdr_top.specs.Sessions.{sessions_of}
-use Rattle.fdr_top.specs.SessionsTaken.{HasBegunBlock, HasTakenBlocks, IsOpenSession, entries_before}
+use Rattle.fdr_top.specs.SessionsTaken.{HasBegunBlock, HasTakenBlocks, IsOpenSession, TakesFirstBlocks, decided_entries, decided_of_blocks}
+use Rattle.fdr_top.specs.SessionsTaken.{decided_of_sessions, decided_session, entries_before}
 use Rattle.fdr_top.proofs.SessionLemmas.{sessions_ahead, sessions_other, sessions_same}
 
 -- ---- the lines of the entries
@@ -197,6 +203,60 @@ bits_within version blocks (Some number) closed current is =
     ap payloads_of all ∙ flat_map-append (λ (b : Block). b.payload) front current in
     omega (arith, ap length bits, length-append (payloads_of front) (payloads_of current))
 
+-- ---- what blocks decide that may go on
+
+-- no bytes decide anything
+decided_none : (t : TableRows) → IsWordCount t.frame.words → decided_entries t [] ≡ []
+decided_none t count =
+    let w = t.frame.words in
+    ap (entries_in t []) (decided_from_none [] w 0 (none_in_few_bytes [] w 0 (omega (arith, word_count_some w count))))
+
+decided_last : (t : TableRows) (closed : List (List Block)) (current : List Block)
+    → decided_of_sessions t (closed ++ current ∷ []) ≡ flat_map (session_entries t) closed ++ decided_session t current
+decided_last t closed current =
+    let sessions : List (List Block) = closed ++ current ∷ [] in
+    let before : length sessions - 1 ≡ length closed = omega (arith, length-append closed (current ∷ [])) in
+    ap (λ (n : ℕ). flat_map (session_entries t) (take n sessions) ++ flat_map (decided_session t) (drop n sessions)) before
+    ∙ ap₂ (λ (xs ys : List (List Block)). flat_map (session_entries t) xs ++ flat_map (decided_session t) ys)
+    (take-append_seam closed (current ∷ [])) (drop-append_seam closed (current ∷ []))
+    ∙ ap (λ (l : List Entry). flat_map (session_entries t) closed ++ l) (append-nil (decided_session t current))
+
+decided_of_version_2 : (t : TableRows) (version : ℕ) (blocks : List Block) → version ≡ 2
+    → decided_of_blocks t version blocks ≡ decided_of_sessions t (sessions_of blocks)
+unfolding decided_of_blocks
+decided_of_version_2 t version blocks second =
+    ap (λ (n : ℕ). cond (n == 2) (decided_of_sessions t (sessions_of blocks)) (decided_entries t (payloads_of blocks))) second
+
+decided_of_version_1 : (t : TableRows) (version : ℕ) (blocks : List Block) → version == 2 ≡ false
+    → decided_of_blocks t version blocks ≡ decided_entries t (payloads_of blocks)
+unfolding decided_of_blocks
+decided_of_version_1 t version blocks first = cond-false (version == 2) _ _ first
+
+-- no blocks decide anything
+pub decided_of_none : (t : TableRows) (version : ℕ) → IsWordCount t.frame.words → decided_of_blocks t version [] ≡ []
+decided_of_none t version count = ⊎_elim
+    (λ yes. decided_of_version_2 t version [] yes.1)
+    (λ no. decided_of_version_1 t version [] no.0 ∙ decided_none t count)
+    (eqb_tells version 2)
+
+-- it is what comes before the bits of the open session, and what these decide
+decided_open : (t : TableRows) (version : ℕ) (blocks : List Block) (open_session : Option ℕ) (closed : List (List Block)) (current : List Block)
+    → IsWordCount t.frame.words → IsOpenSession version blocks open_session closed current
+    → decided_of_blocks t version blocks ≡ entries_before t open_session closed current ++ decided_entries t (payloads_of current)
+decided_open t version blocks None closed current count is = ⊎_elim
+    (λ yes.
+    let none : current ≡ [] = is.1 ∙ is.0 yes.1 in
+    decided_of_version_2 t version blocks yes.1
+    ∙ ap (λ (l : List Block). decided_of_sessions t (sessions_of l)) (is.0 yes.1)
+    ∙ sym (ap (λ (l : List Block). decided_entries t (payloads_of l)) none ∙ decided_none t count))
+    (λ no. decided_of_version_1 t version blocks no.0 ∙ ap (λ (l : List Block). decided_entries t (payloads_of l)) (sym is.1))
+    (eqb_tells version 2)
+decided_open t version blocks (Some number) closed current count is =
+    decided_of_version_2 t version blocks is.0
+    ∙ ap (decided_of_sessions t) is.3
+    ∙ decided_last t closed current
+    ∙ sym (append_assoc (flat_map (session_entries t) closed) (LineEntry (session_line current) ∷ []) (decided_entries t (payloads_of current)))
+
 module _ {S O : Type 0} (took : TableRows → S → O → S → O → List Entry → Type 0) (failed_in : TableRows → S → O → O → List Entry → Type 0)
     (laws : TakerLaws took failed_in) (t : TableRows) (version : ℕ)
   where
@@ -211,6 +271,19 @@ module _ {S O : Type 0} (took : TableRows → S → O → S → O → List Entry
       before = laws.nothing t s o;
       bits = taken_nothing took failed_in laws t r s o reads;
     }
+
+    -- none were read
+    pub first_none : (whole : List Block) (s : S) (o : O) → IsWordCount t.frame.words → TakesFirstBlocks took t version whole s o s o
+    first_none whole s o count =
+        let none = decided_of_none t version count in
+        record {
+          read = [];
+          unread = whole;
+          parted = refl;
+          taken = subst (took t s o s o) (sym none) (laws.nothing t s o);
+          later = entries_of_blocks t version whole;
+          ahead = ap (λ (l : List Entry). l ++ entries_of_blocks t version whole) (sym none);
+        }
 
     module _ (open_session : Option ℕ) (r : EventReader) (blocks : List Block) (b : Block) (first : S) (out_first : O) (now : S) (out_now : O) where
       -- the bits of a block that was begun are read
@@ -285,22 +358,32 @@ module _ {S O : Type 0} (took : TableRows → S → O → S → O → List Entry
             subst (failed_in t first out_first out_last) (sym (whole t version blocks open_session had.closed had.current had.bits.reads.count had.session))
             (laws.fails_then t first had.mid out_first had.out_mid out_last _ _ had.before rest)
 
-        -- what was taken is the front of all, however the blocks go on
-        pub blocks_first : (more : List Block) → (entries rest : List Entry) × took t first out_first now out_now entries
-            × (entries_of_blocks t version (blocks ++ more) ≡ entries ++ rest)
+        -- what was taken is what the blocks decide, and comes first in all that is listed, however they go on
+        pub blocks_first : (more : List Block) → TakesFirstBlocks took t version (blocks ++ more) first out_first now out_now
         blocks_first more =
-            let next = ahead t version blocks more open_session had.closed had.current had.bits.reads.count had.session in
+            let count = had.bits.reads.count in
+            let next = ahead t version blocks more open_session had.closed had.current count had.session in
             let bits = taken_first took t r (payloads_of had.current) (payloads_of next.0) had.mid had.out_mid now out_now had.bits in
             let before : List Entry = entries_before t open_session had.closed had.current in
             let all : entries_of t (payloads_of (had.current ++ next.0)) ≡ had.bits.entries ++ bits.0 =
-            ap (entries_of t) (flat_map-append (λ (b : Block). b.payload) had.current next.0) ∙ bits.1 in (
-              before ++ had.bits.entries,
-              bits.0 ++ next.1,
-              laws.then t first had.mid now out_first had.out_mid out_now _ _ had.before had.bits.taken,
-              next.2 ∙ ap (λ (l : List Entry). (before ++ l) ++ next.1) all
+            ap (entries_of t) (flat_map-append (λ (b : Block). b.payload) had.current next.0) ∙ bits.1 in
+            let decided : had.bits.entries ≡ decided_entries t (payloads_of had.current) =
+            sym (had.bits.decided [])
+            ∙ ap (λ (l : List ℕ). entries_in t l (decided_events (payloads_of had.current) t.frame.words)) (append-nil (payloads_of had.current)) in
+            let same : before ++ had.bits.entries ≡ decided_of_blocks t version blocks =
+            ap (λ (l : List Entry). before ++ l) decided ∙ sym (decided_open t version blocks open_session had.closed had.current count had.session) in
+            record {
+              read = blocks;
+              unread = more;
+              parted = refl;
+              taken = subst (took t first out_first now out_now) same
+                  (laws.then t first had.mid now out_first had.out_mid out_now _ _ had.before had.bits.taken);
+              later = bits.0 ++ next.1;
+              ahead = next.2 ∙ ap (λ (l : List Entry). (before ++ l) ++ next.1) all
                   ∙ ap (λ (l : List Entry). l ++ next.1) (sym (append_assoc before had.bits.entries bits.0))
-                  ∙ append_assoc (before ++ had.bits.entries) bits.0 next.1,
-            )
+                  ∙ append_assoc (before ++ had.bits.entries) bits.0 next.1
+                  ∙ ap (λ (l : List Entry). l ++ (bits.0 ++ next.1)) same;
+            }
 
         -- ---- another session begins
 

@@ -12,7 +12,7 @@ ghost use Rattle.fdr_readout.specs.Reading.{ReadsEvents, decided_past};
 ghost use Rattle.fdr_words.specs.Forms.{list_image};
 ghost use Rattle.fdr_top.specs.Stages.{WritesNothing};
 ghost use Rattle.fdr_top.specs.Answers.{IsOwn};
-ghost use Rattle.fdr_top.specs.List.{IsOpened, RefusesOpening, ListsImage, opening_refusal};
+ghost use Rattle.fdr_top.specs.List.{IsOpened, RefusesOpening, ListsImage, ListsRead, opening_refusal};
 ghost use Rattle.fdr_top.specs.Recover.{OnlyLooks};
 ghost use Rattle.fdr_top.specs.Refusals.{RefusesImage, HasHeader};
 ghost use Rattle.fdr_top.specs.Commands.{Works};
@@ -97,6 +97,9 @@ fn list_blocks<D: Deck, O: Sink>(
         (listing_of_blocks blocks.old.table.now header.now.version (recovered_run header.now (D.state deck.old).held)) }
     ensures part { IsTrue D.tells.bytes → (k : ℕ) × (O.written out.new ≡ followed_by (O.written out.old)
         (take k (listing_of_blocks blocks.old.table.now header.now.version (recovered_run header.now (D.state deck.old).held)))) }
+    ensures drained { result ≡ Outcome.DiskFault → IsTrue D.tells.bytes → (Rose (O.faults out.old) (O.faults out.new) → ⊥)
+        → ListsRead blocks.old.table.now header.now.version (recovered_run header.now (D.state deck.old).held)
+        (O.written out.old) (O.written out.new) }
     ensures looks { Looks D.tells (D.state deck.old) (D.state deck.new) }
     ensures disk_fault { result ≡ Outcome.DiskFault
         → Rose (D.state deck.old).disk_faults (D.state deck.new).disk_faults }
@@ -122,7 +125,7 @@ fn list_image<D: Deck, O: Sink>(alloc: Global, sound: &Sound, deck: &mut D, out:
     requires { IsWordCount sound.now.frame.words }
     ensures answer { (path image : List ℕ) → (result ≡ Outcome.NoMemory) ⊎ IsOwn (list_image path image) result }
     ensures lists { ListsImage sound.now D.tells (D.state deck.old) (D.state deck.new)
-        (O.written out.old) (O.written out.new) result }
+        (O.written out.old) (O.written out.new) (O.faults out.old) (O.faults out.new) result }
     ensures disk_fault { result ≡ Outcome.DiskFault
         → Rose (D.state deck.old).disk_faults (D.state deck.new).disk_faults }
     ensures write_fault { result ≡ Outcome.WriteFault → Rose (O.faults out.old) (O.faults out.new) }

@@ -9,10 +9,9 @@ ghost use Rattle.fdr_recover.specs.Images.{blocks_between, recovered_run};
 ghost use Rattle.fdr_recover.specs.Looks.{Looks};
 ghost use Rattle.fdr_recover.specs.Payloads.{payloads_of};
 ghost use Rattle.fdr_resync.specs.Past.{ScannerPast};
-ghost use Rattle.fdr_readout.specs.Entries.{Entry};
 ghost use Rattle.fdr_readout.specs.Reading.{ReadsEvents, decided_past};
 ghost use Rattle.fdr_top.specs.Sessions.{entries_of_blocks, session_text};
-ghost use Rattle.fdr_top.specs.SessionsTaken.{HasBegunBlock, HasTakenBlocks};
+ghost use Rattle.fdr_top.specs.SessionsTaken.{HasBegunBlock, HasTakenBlocks, TakesFirstBlocks};
 
 use fdr_deck::Deck;
 use fdr_io::{Failed, Sink};
@@ -160,17 +159,16 @@ pub fn take_between<D: Deck, O: Sink, T: Taker<O>>(
     ensures part { IsTrue D.tells.bytes → IsErrOf result BlocksFault.Taker
         → T.failed_in blocks.old.table.now blocks.old.taker out.old out.new
         (entries_of_blocks blocks.old.table.now blocks.old.version (blocks_between header.now (D.state deck.old).held first next)) }
-    ensures front { IsTrue D.tells.bytes → IsErrOf result BlocksFault.Disk → (entries rest : List Entry)
-        × T.took blocks.old.table.now blocks.old.taker out.old blocks.new.taker out.new entries
-        × (entries_of_blocks blocks.old.table.now blocks.old.version (blocks_between header.now (D.state deck.old).held first next)
-        ≡ entries ++ rest) }
+    ensures front { IsTrue D.tells.bytes → IsErrOf result BlocksFault.Disk → TakesFirstBlocks T.took blocks.old.table.now
+        blocks.old.version (blocks_between header.now (D.state deck.old).held first next)
+        blocks.old.taker out.old blocks.new.taker out.new }
     ensures bounded { IsTrue D.tells.bytes
         → OnOk result (length (payloads_of (blocks_between header.now (D.state deck.old).held first next)) ≤ 2 ^ 28) }
     ensures disk_fault { IsErrOf result BlocksFault.Disk → Rose (D.state deck.old).disk_faults (D.state deck.new).disk_faults }
     ensures disk_unfailed { (IsErrOf result BlocksFault.Disk → ⊥)
         → (D.state deck.new).disk_faults ≡ (D.state deck.old).disk_faults }
     ensures write_fault { IsErrOf result BlocksFault.Taker → Rose (O.faults out.old) (O.faults out.new) }
-    ensures no_fault { OnOk result (O.faults out.new ≡ O.faults out.old) }
+    ensures write_unfailed { (IsErrOf result BlocksFault.Taker → ⊥) → O.faults out.new ≡ O.faults out.old }
     ensures looks { Looks D.tells (D.state deck.old) (D.state deck.new) }
     ensures reads { OnOk result ((past : ScannerPast) × ReadsEvents blocks.old.table.now blocks.new.events past) }
     ensures table { OnOk result (blocks.new.table ≡ blocks.old.table) }
@@ -196,17 +194,16 @@ pub fn take_blocks<D: Deck, O: Sink, T: Taker<O>>(
     ensures part { IsTrue D.tells.bytes → IsErrOf result BlocksFault.Taker
         → T.failed_in blocks.old.table.now blocks.old.taker out.old out.new
         (entries_of_blocks blocks.old.table.now blocks.old.version (recovered_run header.now (D.state deck.old).held)) }
-    ensures front { IsTrue D.tells.bytes → IsErrOf result BlocksFault.Disk → (entries rest : List Entry)
-        × T.took blocks.old.table.now blocks.old.taker out.old blocks.new.taker out.new entries
-        × (entries_of_blocks blocks.old.table.now blocks.old.version (recovered_run header.now (D.state deck.old).held)
-        ≡ entries ++ rest) }
+    ensures front { IsTrue D.tells.bytes → IsErrOf result BlocksFault.Disk → TakesFirstBlocks T.took blocks.old.table.now
+        blocks.old.version (recovered_run header.now (D.state deck.old).held)
+        blocks.old.taker out.old blocks.new.taker out.new }
     ensures bounded { IsTrue D.tells.bytes
         → OnOk result (length (payloads_of (recovered_run header.now (D.state deck.old).held)) ≤ 2 ^ 28) }
     ensures disk_fault { IsErrOf result BlocksFault.Disk → Rose (D.state deck.old).disk_faults (D.state deck.new).disk_faults }
     ensures disk_unfailed { (IsErrOf result BlocksFault.Disk → ⊥)
         → (D.state deck.new).disk_faults ≡ (D.state deck.old).disk_faults }
     ensures write_fault { IsErrOf result BlocksFault.Taker → Rose (O.faults out.old) (O.faults out.new) }
-    ensures no_fault { OnOk result (O.faults out.new ≡ O.faults out.old) }
+    ensures write_unfailed { (IsErrOf result BlocksFault.Taker → ⊥) → O.faults out.new ≡ O.faults out.old }
     ensures looks { Looks D.tells (D.state deck.old) (D.state deck.new) }
 {
     let Ok(found) = scan(deck, header) else {

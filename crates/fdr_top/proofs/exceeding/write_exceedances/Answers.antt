@@ -6,6 +6,7 @@ use Rattle.fdr_io.proofs.OutputSteps.{whole_is_part}
 use Rattle.fdr_top.specs.Exceed.{exceedances_of_blocks}
 use Rattle.fdr_top.specs.Exceeding.{TakesEntries, steps_of_entries}
 use Rattle.fdr_top.specs.Sessions.{entries_of_blocks}
+use Rattle.fdr_top.specs.SessionsTaken.{decided_of_blocks}
 use Rattle.fdr_top.proofs.Exceeds.{all_written, blocks_failed_part, end_failed, first_part, gave}
 use Rattle.fdr_top.proofs.RunSizes.{run_short}
 use Rattle.fdr_top.proofs.Results.{disk_not_done, disk_not_write, done_not_disk, done_not_write, ok_not_err, rose_after, taker_not_disk}
@@ -43,7 +44,7 @@ returns-in-Ok-finish g c = record {
   disk_fault = λ e. absurd (done_not_disk e);
   write_fault = λ e. absurd (done_not_write e);
   no_disk_fault = λ other. c.in-Ok.ensures.disk_unfailed (ok_not_err _ _);
-  no_write_fault = λ other more. c.in-Ok-finish.ensures.no_fault ∙ c.in-Ok.ensures.no_fault;
+  no_write_fault = λ other more. c.in-Ok-finish.ensures.no_fault ∙ c.in-Ok.ensures.write_unfailed (ok_not_err _ _);
 }
 
 -- where the last of it wasn't
@@ -66,7 +67,7 @@ returns-in-Err g c = record {
       (c.in-Err.ensures.part (steps_of_entries (entries_of_blocks t version run)) given.all);
   looks = c.take_blocks.ensures.looks;
   disk_fault = λ e. absurd (write_not_disk e);
-  write_fault = λ e. rose_after _ _ _ c.in-Ok.ensures.no_fault c.in-Err.ensures.cause;
+  write_fault = λ e. rose_after _ _ _ (c.in-Ok.ensures.write_unfailed (ok_not_err _ _)) c.in-Err.ensures.cause;
   no_disk_fault = λ other. c.in-Ok.ensures.disk_unfailed (ok_not_err _ _);
   no_write_fault = λ other more. absurd (other refl);
 }
@@ -81,10 +82,10 @@ returns-in-Err-Disk g c = record {
       let version = c.args.header.now.version in
       let run = recovered_run c.args.header.now (g.D.Deck.state c.args.deck.now).held in
       let short = run_short c.args.header.now (g.D.Deck.state c.args.deck.now).held c.requires.limits in
-      let front = c.in-Err-Disk.ensures.front told (ap Err c.in-Err-Disk.field-0-is) in
+      let front = rw c.requires.version at (c.in-Err-Disk.ensures.front told (ap Err c.in-Err-Disk.field-0-is)) in
       first_part (g.O.Sink.written c.args.out.now) c.args.blocks.now.taker t version run c.requires.empty c.requires.no_rows c.requires.watching
-      c.requires.sound short (g.O.Sink.written c.take_blocks.new.out) _ c.take_blocks.new.blocks.taker front.0 front.1 c.flush.result front.2
-      (rw c.requires.version at front.3) c.flush.ensures.all c.flush.ensures.part;
+      c.requires.sound short (g.O.Sink.written c.take_blocks.new.out) _ c.take_blocks.new.blocks.taker
+      (decided_of_blocks t version front.read) front.later c.flush.result front.taken front.ahead c.flush.ensures.all c.flush.ensures.part;
   looks = c.take_blocks.ensures.looks;
   disk_fault = λ e. c.in-Err-Disk.ensures.disk_fault (ap Err c.in-Err-Disk.field-0-is);
   write_fault = λ e. absurd (disk_not_write e);

@@ -24,6 +24,6 @@ returns-clause-works g c = λ path image.
         disk = λ other. c.list_image.ensures.no_disk_fault other;
       };
       does = c.list_image.ensures.lists;
-      complete = λ whole faultless. list_done path image _ _ _ _ _ _ _ answer c.list_image.ensures.lists whole.0 whole.1
+      complete = λ whole faultless. list_done path image _ _ _ _ _ _ _ _ _ answer c.list_image.ensures.lists whole.0 whole.1
           (λ e. faultless.disk tt (c.list_image.ensures.disk_fault e)) (λ e. faultless.sink tt (c.list_image.ensures.write_fault e));
     }

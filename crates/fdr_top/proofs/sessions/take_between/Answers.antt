@@ -2,7 +2,7 @@ use Rattle.std.proofs.Common.{◌≡◌, Result, Ok, Err, sym, ap, refl, ◌∙�
 use Rattle.std.specs.Prelude.{OnOk, OnErr}
 use Rattle.std.proofs.lemmas.Result.{err_from_is_err_and}
 use Rattle.fdr_recover.specs.declared.walk.BlocksFault.{BlocksFault}
-use Rattle.fdr_top.specs.Sessions.{entries_of_blocks}
+use Rattle.fdr_recover.specs.declared.walk.BlocksFault.TheVariants as blocks
 use Rattle.fdr_top.proofs.SessionEntries.{blocks_first, no_blocks}
 use Rattle.fdr_top.proofs.sessions.take_between.Goals as goal
 
@@ -19,6 +19,12 @@ where_failed (Err x) e is holds = holds
 anyway : {T E P : Type 0} (r : Result T E) → P → OnOk r P
 anyway (Ok v) holds = holds
 anyway (Err e) holds = tt
+
+-- neither the disk nor the taker failed
+unfailed : {P : Type 0} (r : Result (Unit {0}) BlocksFault) → OnOk r P → (r ≡ Err blocks.Disk → ⊥) → (r ≡ Err blocks.Taker → ⊥) → P
+unfailed (Ok v) holds disk taker = holds
+unfailed (Err blocks.Disk) holds disk taker = absurd (disk refl)
+unfailed (Err blocks.Taker) holds disk taker = absurd (taker refl)
 
 pub walk_between-requires-clause-ready : goal.walk_between-requires-clause-ready
 walk_between-requires-clause-ready g c = (
@@ -38,8 +44,9 @@ returns-in_err-walk_between-clause-front g c = λ told fails.
     let p = err_from_is_err_and c.from_residual.result c.from_residual.ensures.1 in
     let front = c.in_err-walk_between.ensures.front (same_fault _ _ _ _ p.1 p.2 fails) in
     let more = front.2 told in
-    let first = blocks_first g.T.Taker.took g.T.Taker.failed_in g.met.T.Taker.laws _ _ _ _ _ _ _ _ _ front.1.2 more.0 in
-    (first.0, first.1, first.2, ap (entries_of_blocks c.args.blocks.now.table.now c.args.blocks.now.version) more.1 ∙ first.3)
+    let blocks = c.args.blocks.now in
+    rw more.1 (blocks_first g.T.Taker.took g.T.Taker.failed_in g.met.T.Taker.laws blocks.table.now blocks.version _ _ front.0 blocks.taker c.args.out.now _ _
+    front.1.2 more.0)
 
 pub end_blocks-requires : goal.end_blocks-requires
 end_blocks-requires g c =
@@ -59,6 +66,10 @@ returns-clause-part g c = λ told is.
 
 pub returns-clause-front : goal.returns-clause-front
 returns-clause-front g c = λ told is. absurd (c.end_blocks.ensures.fault is)
+
+pub returns-clause-write_unfailed : goal.returns-clause-write_unfailed
+returns-clause-write_unfailed g c = λ other.
+    unfailed c.end_blocks.result c.end_blocks.ensures.no_fault c.end_blocks.ensures.fault other ∙ c.in_ok-walk_between.ensures.write_unfailed (λ e. absurd (cc))
 
 pub returns-clause-bounded : goal.returns-clause-bounded
 returns-clause-bounded g c = λ told.

@@ -3,7 +3,7 @@ use Rattle.std.specs.Prelude.{IsTrue}
 use Rattle.fdr_recover.specs.Images.{blocks_between, recovered_run}
 use Rattle.fdr_recover.proofs.Between.{between_run}
 use Rattle.fdr_recover.proofs.Looking.{Looks-then}
-use Rattle.fdr_top.specs.Sessions.{entries_of_blocks}
+use Rattle.fdr_top.proofs.SessionEntries.{first_none}
 use Rattle.fdr_top.proofs.sessions.take_blocks.Given.{Over}
 use Rattle.fdr_top.proofs.sessions.take_blocks.Goals.{In-Ok}
 use Rattle.fdr_top.proofs.sessions.take_blocks.Goals as goal
@@ -15,12 +15,8 @@ run_is : (g : Over) (c : In-Ok g) → IsTrue g.D.Deck.tells.bytes
 run_is g c told = between_run _ _ _ _ c.requires.limits (c.in-Ok.ensures.first told) (c.in-Ok.ensures.next told)
 
 pub returns-in_default-clause-front : goal.returns-in_default-clause-front
-returns-in_default-clause-front g c = λ told fails. (
-  [],
-  entries_of_blocks c.args.blocks.now.table.now c.args.blocks.now.version (recovered_run c.args.header.now (g.D.Deck.state c.args.deck.now).held),
-  g.met.T.Taker.laws.nothing _ _ _,
-  refl,
-)
+returns-in_default-clause-front g c = λ told fails.
+    first_none g.T.Taker.took g.T.Taker.failed_in g.met.T.Taker.laws _ _ _ _ _ c.requires.fresh.count
 
 pub returns-clause-all : goal.returns-clause-all
 returns-clause-all g c = λ told.
