@@ -234,14 +234,14 @@ does_nothing (list_image path image) r tells d written s answer same sound reads
     rw same (lists_nothing tells r.rest_before r.rest_now d written _ _ answer sound (inr of))
 does_nothing (upgrade_image image) r tells d written s answer same sound reads of = absurd (let e : false ≡ true = reads in cc)
 does_nothing (salvage_image path image ring) r tells d written s answer same sound reads of =
-    rw same (salvages_nothing ring tells r.rest_before r.rest_now d written answer sound (inr of))
+    rw same (salvages_nothing ring tells r.rest_before r.rest_now d written _ _ answer sound (inr of))
 does_nothing (exceed_image path image) r tells d written s answer same sound reads of =
     rw same (
       table_or r.rest_before,
       table_told r.rest_before,
       λ past. absurd (table_not_past answer of past),
       exceeds_nothing
-          (table_or r.rest_before) tells d written answer sound (table_not_past answer of),
+          (table_or r.rest_before) tells d written _ _ answer sound (table_not_past answer of),
     )
 does_nothing (drill_image path image seed frames) r tells d written s answer same sound reads of =
     rw same (drills_nothing seed frames tells r.rest_before r.rest_now d written answer sound (table_not_past answer of))

@@ -12,7 +12,7 @@ use Rattle.fdr_exceed.specs.Exceedances.{WatchStep, RowStep, ResetStep}
 use Rattle.fdr_readout.specs.Entries.{FrameEntry, RowEntry, entries_at, entries_of}
 use Rattle.fdr_readout.specs.Listing.{is_frame_linked, rows_at}
 use Rattle.fdr_top.specs.Exceed.{frame_steps, part_steps, steps_of_bits, steps_of_blocks}
-use Rattle.fdr_top.specs.Exceeding.{entry_steps, steps_of_entries}
+use Rattle.fdr_top.specs.Exceed.{entry_steps, steps_of_entries}
 use Rattle.fdr_top.specs.Sessions.{entries_of_blocks, session_entries, sessions_of}
 
 steps_of_rows : (rows : List Row) → steps_of_entries (map RowEntry rows) ≡ map RowStep rows

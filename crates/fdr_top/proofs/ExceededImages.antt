@@ -6,6 +6,7 @@ use Rattle.std.proofs.lemmas.Bool.{cond-true, lt-ltb}
 use Rattle.std.proofs.lemmas.List.{take_all, take-append-drop}
 use Rattle.csv.specs.Machine.{next_record}
 use Rattle.csv.specs.Reading.{records_from, strip_bom}
+use Rattle.fdr_io.specs.Faults.{Rose}
 use Rattle.fdr_io.specs.Told.{followed_by}
 use Rattle.fdr_io.specs.declared.Input.TheVariants as input
 use Rattle.fdr_io.proofs.Telling.{followed_by-nil}
@@ -18,11 +19,14 @@ use Rattle.fdr_pieces.proofs.Pulling.{LeavesStops-here, LeavesStops-look, Leaves
 use Rattle.fdr_pieces.specs.Pieces.{EndsInput, LeavesStops, PullsPieces, before_last, last_piece}
 use Rattle.fdr_pieces.specs.declared.pieces.InputEnd.{InputEnd}
 use Rattle.fdr_pieces.specs.declared.pieces.InputEnd.TheVariants as input_end
+use Rattle.fdr_frame.specs.WordCount.{IsWordCount}
 use Rattle.fdr_slot.specs.Places.{image_size}
 use Rattle.fdr_slot.specs.declared.image.Header.{Header}
+use Rattle.fdr_recover.specs.Blocks.{Block}
 use Rattle.fdr_recover.specs.ImageHeader.{header_in, IsFor}
 use Rattle.fdr_recover.specs.Images.{recovered_run}
 use Rattle.fdr_recover.specs.Looks.{Looks}
+use Rattle.fdr_recover.specs.Payloads.{run_in}
 use Rattle.fdr_table.specs.Reading.{records_of}
 use Rattle.fdr_table.specs.Rows.{TableRows}
 use Rattle.fdr_exceed.specs.RuleFaults.{rules_fault}
@@ -35,14 +39,15 @@ use Rattle.fdr_exceed.specs.declared.fault.RulesError.TheVariants as error
 use Rattle.fdr_exceed.specs.declared.rule.Rule.{Rule}
 use Rattle.fdr_words.specs.Forms.{exceed_image}
 use Rattle.fdr_top.specs.Answers.{IsOwn}
-use Rattle.fdr_top.specs.Exceed.{ExceedsImage, HasPulledRules, HasReadBlocks, HasRefusedRules, IsRulesAnswer, IsRulesEnd, exceedances_in, exceedances_of_blocks}
-use Rattle.fdr_top.specs.Exceed.{rules_in, rules_refusal}
+use Rattle.fdr_top.specs.Exceed.{ExceedsImage, ExceedsRead, HasPulledRules, HasReadBlocks, HasRefusedRules, IsRulesAnswer, IsRulesEnd}
+use Rattle.fdr_top.specs.Exceed.{exceedances_in, exceedances_of_blocks, rules_in, rules_refusal}
 use Rattle.fdr_top.specs.List.{RefusesOpening}
 use Rattle.fdr_top.specs.Recover.{OnlyLooks}
 use Rattle.fdr_top.specs.Refusals.{RefusesImage}
 use Rattle.fdr_top.specs.Stages.{IsPastTable, WritesNothing}
 use Rattle.fdr_top.specs.declared.outcome.Outcome.{Outcome}
 use Rattle.fdr_top.specs.declared.outcome.Outcome.TheVariants as outcome
+use Rattle.fdr_top.proofs.Exceeds.{none_exceeded}
 use Rattle.fdr_top.proofs.Images.{run_same}
 use Rattle.fdr_top.proofs.ListedImages.{of_blocks_begun}
 use Rattle.fdr_top.proofs.RecordLines.{no_differ, no_first, refuses_nothing, takes_image}
@@ -252,9 +257,10 @@ stops_then tells old mid new looks stopped =
     LeavesStops-then tells old mid new (LeavesStops-look tells old mid looks.disk_work) looks.disk stopped
 
 -- the image wasn't opened
-pub unopened : (t : TableRows) (tells : Tells) (old new : State) (written : Option (List ℕ)) (answer : Outcome) → OnlyLooks tells old new
-    → RefusesOpening answer → RefusesImage t tells old new answer → ExceedsImage t tells old new written written answer
-unopened t tells old new written answer looks shut image =
+pub unopened : (t : TableRows) (tells : Tells) (old new : State) (written : Option (List ℕ)) (before after : ℕ) (answer : Outcome)
+    → IsWordCount t.frame.words → OnlyLooks tells old new → RefusesOpening answer → RefusesImage t tells old new answer
+    → ExceedsImage t tells old new written written before after answer
+unopened t tells old new written before after answer count looks shut image =
     let undone : (answer ≡ outcome.Done) ⊎ (answer ≡ outcome.WriteFault) → ⊥ = λ either.
     ⊎_elim (shut_other answer outcome.Done shut (λ x. x)) (shut_other answer outcome.WriteFault shut (λ x. x)) either in
     record {
@@ -273,6 +279,7 @@ unopened t tells old new written answer looks shut image =
       few = λ e. omega arith;
       text = λ done told. absurd (undone (inl done));
       part = λ read told. (0, sym (followed_by-nil written));
+      drained = λ fails told none. none_exceeded (rules_in t []) t _ _ written count;
       unwritten = λ none. refl;
       cut = λ e. inl (looks.disk_work.passes.input.taken, refl);
     }
@@ -298,10 +305,11 @@ always t tells old new pulled answer refused row f past some = ⊎_elim
     refused.only
 
 -- the rules weren't read
-pub rules_refused : (t : TableRows) (tells : Tells) (old mid new : State) (written : Option (List ℕ)) (pulled : List ℕ) (answer : Outcome)
+pub rules_refused : (t : TableRows) (tells : Tells) (old mid new : State) (written : Option (List ℕ)) (before after : ℕ) (pulled : List ℕ)
+    (answer : Outcome)
     → OnlyLooks tells old mid → 64 ≤ mid.extent → (IsTrue tells.bytes → IsFor t.frame.words old.held) → LeavesDisk mid new → LeavesStops tells mid new
-    → HasRefusedRules t tells mid new pulled answer → ExceedsImage t tells old new written written answer
-rules_refused t tells old mid new written pulled answer looks long for leaves stopped refused = record {
+    → HasRefusedRules t tells mid new pulled answer → ExceedsImage t tells old new written written before after answer
+rules_refused t tells old mid new written before after pulled answer looks long for leaves stopped refused = record {
   stops = stops_then tells old mid new looks stopped;
   disk = keeps_then old mid new looks.disk leaves.disk;
   learns = learns_then tells old mid new looks.learns leaves.extent;
@@ -317,15 +325,16 @@ rules_refused t tells old mid new written pulled answer looks long for leaves st
   few = refused.few;
   text = λ done told. absurd (rules_unread answer refused.only (inl done));
   part = λ read told. absurd (rules_unread answer refused.only read);
+  drained = λ fails. absurd (rules_unread answer refused.only (inr (inr fails)));
   unwritten = λ none. refl;
   cut = λ e. absurd (rules_unread answer refused.only (inr (inr e)));
 }
 
 -- memory ended behind the rules
-pub no_room_to_watch : (t : TableRows) (tells : Tells) (old mid new : State) (written : Option (List ℕ)) (pulled : List ℕ)
+pub no_room_to_watch : (t : TableRows) (tells : Tells) (old mid new : State) (written : Option (List ℕ)) (before after : ℕ) (pulled : List ℕ)
     → OnlyLooks tells old mid → LeavesDisk mid new → LeavesStops tells mid new → HasPulledRules t tells mid new pulled
-    → ExceedsImage t tells old new written written outcome.NoMemory
-no_room_to_watch t tells old mid new written pulled looks leaves stopped read = record {
+    → ExceedsImage t tells old new written written before after outcome.NoMemory
+no_room_to_watch t tells old mid new written before after pulled looks leaves stopped read = record {
   stops = stops_then tells old mid new looks stopped;
   disk = keeps_then old mid new looks.disk leaves.disk;
   learns = learns_then tells old mid new looks.learns leaves.extent;
@@ -341,19 +350,24 @@ no_room_to_watch t tells old mid new written pulled looks leaves stopped read = 
   few = λ e. absurd (cc);
   text = λ done told. absurd (cc);
   part = λ either told. absurd (rules_unread outcome.NoMemory (inr (inr refl)) either);
+  drained = λ fails. absurd (cc);
   unwritten = λ none. refl;
   cut = λ e. absurd (cc);
 }
 
 -- the blocks were read
 pub blocks_exceeded : (t : TableRows) (tells : Tells) (old mid end new : State) (h : Header) (rules : List Rule) (before now : Option (List ℕ))
-    (pulled : List ℕ) (answer : Outcome) → OnlyLooks tells old mid → LeavesDisk mid end → LeavesStops tells mid end → Looks tells end new
+    (sink_before sink_now : ℕ) (pulled : List ℕ) (answer : Outcome) → OnlyLooks tells old mid → LeavesDisk mid end
+    → LeavesStops tells mid end → Looks tells end new
     → (IsTrue tells.bytes → h ≡ header_in old.held) → (IsTrue tells.bytes → IsFor t.frame.words old.held) → image_size h ≤ mid.extent
     → HasPulledRules t tells mid end pulled → rules ≡ rules_in t pulled → HasReadBlocks answer
     → (answer ≡ outcome.Done → IsTrue tells.bytes → now ≡ followed_by before (exceedances_of_blocks rules t h.version (recovered_run h end.held)))
     → (IsTrue tells.bytes → (k : ℕ) × (now ≡ followed_by before (take k (exceedances_of_blocks rules t h.version (recovered_run h end.held)))))
-    → ExceedsImage t tells old new before now answer
-blocks_exceeded t tells old mid end new h rules before now pulled answer looks leaves stopped last header for long read are of text part =
+    → (answer ≡ outcome.DiskFault → IsTrue tells.bytes → (Rose sink_before sink_now → ⊥)
+    → ExceedsRead rules t h.version (recovered_run h end.held) before now)
+    → ExceedsImage t tells old new before now sink_before sink_now answer
+blocks_exceeded t tells old mid end new h rules before now sink_before sink_now pulled answer looks leaves stopped last header for long read are of
+    text part drained =
     let listed : IsTrue tells.bytes → exceedances_of_blocks rules t h.version (recovered_run h end.held) ≡ exceedances_in t pulled old.held = λ told.
     ap (λ (rs : List Rule). exceedances_of_blocks rs t h.version (recovered_run h end.held)) are
     ∙ ap (λ (image : List ℕ). exceedances_of_blocks (rules_in t pulled) t h.version (recovered_run h image)) leaves.disk.held
@@ -380,36 +394,44 @@ blocks_exceeded t tells old mid end new h rules before now pulled answer looks l
           (λ (x : answer ≡ outcome.DiskFault). let c : outcome.DiskFault ≡ outcome.ReadFault input.Line = sym x ∙ e in cc) rest) of);
       text = λ done told. text done told ∙ ap (followed_by before) (listed told);
       part = λ either told. let p = part told in (p.0, p.1 ∙ ap (λ (l : List ℕ). followed_by before (take p.0 l)) (listed told));
+      drained = λ fails told none.
+          let run : recovered_run h end.held ≡ run_in old.held = ap (recovered_run h) leaves.disk.held ∙ run_same tells old mid h looks header told in
+          subst (λ (v : ℕ). ExceedsRead (rules_in t pulled) t v (run_in old.held) before now) (ap (λ (x : Header). x.version) (header told))
+          (subst (λ (l : List Block). ExceedsRead (rules_in t pulled) t h.version l before now) run
+          (subst (λ (rs : List Rule). ExceedsRead rs t h.version (recovered_run h end.held) before now) are (drained fails told none)));
       unwritten = λ none. absurd (none of);
       cut = λ e. inr (λ told. last.disk_work.passes.input.input ∙ read.end told, for);
     }
 
 -- the rules have no fault, the image is for the table's frames, and nothing fails: the exceedances are listed, or memory ended
-pub exceed_done : (path image : List ℕ) (t : TableRows) (tells : Tells) (old new : State) (before now : Option (List ℕ)) (answer : Outcome)
-    → (answer ≡ outcome.NoMemory) ⊎ IsOwn (exceed_image path image) answer → ExceedsImage t tells old new before now answer
+pub exceed_done : (path image : List ℕ) (t : TableRows) (tells : Tells) (old new : State) (before now : Option (List ℕ)) (f_before f_now : ℕ)
+    (answer : Outcome) → (answer ≡ outcome.NoMemory) ⊎ IsOwn (exceed_image path image) answer
+    → ExceedsImage t tells old new before now f_before f_now answer
     → IsTrue tells.input → rules_fault t old.input ≡ None → IsTrue tells.bytes → IsFor t.frame.words old.held
     → (answer ≡ outcome.ReadFault input.Line → ⊥) → (answer ≡ outcome.DiskFault → ⊥) → (answer ≡ outcome.WriteFault → ⊥)
     → (answer ≡ outcome.Done) ⊎ (answer ≡ outcome.NoMemory)
-exceed_done path image t tells old new before now outcome.Done of lists line none told for read disk sink = inl refl
-exceed_done path image t tells old new before now (outcome.ImageRefused why) of lists line none told for read disk sink =
+exceed_done path image t tells old new before now f_before f_now outcome.Done of lists line none told for read disk sink = inl refl
+exceed_done path image t tells old new before now f_before f_now (outcome.ImageRefused why) of lists line none told for read disk sink =
     absurd (no_first old.held why for.no_fault (lists.image.header.refused why refl told))
-exceed_done path image t tells old new before now (outcome.WordsDiffer words table) of lists line none told for read disk sink =
+exceed_done path image t tells old new before now f_before f_now (outcome.WordsDiffer words table) of lists line none told for read disk sink =
     absurd (no_differ t tells old new (outcome.WordsDiffer words table) words table lists.image told for refl)
-exceed_done path image t tells old new before now (outcome.RuleRefused row f) of lists line none told for read disk sink =
+exceed_done path image t tells old new before now f_before f_now (outcome.RuleRefused row f) of lists line none told for read disk sink =
     absurd (no_first_rule (rules_fault t old.input) (row, f) none (lists.rules_of_input row f refl line))
-exceed_done path image t tells old new before now outcome.WriteFault of lists line none told for read disk sink = absurd (sink refl)
-exceed_done path image t tells old new before now outcome.DiskFault of lists line none told for read disk sink = absurd (disk refl)
-exceed_done path image t tells old new before now outcome.NoMemory of lists line none told for read disk sink = inr refl
-exceed_done path image t tells old new before now (outcome.ReadFault input.Line) of lists line none told for read disk sink = absurd (read refl)
-exceed_done path image t tells old new before now (outcome.ReadFault input.Table) of lists line none told for read disk sink =
+exceed_done path image t tells old new before now f_before f_now outcome.WriteFault of lists line none told for read disk sink = absurd (sink refl)
+exceed_done path image t tells old new before now f_before f_now outcome.DiskFault of lists line none told for read disk sink = absurd (disk refl)
+exceed_done path image t tells old new before now f_before f_now outcome.NoMemory of lists line none told for read disk sink = inr refl
+exceed_done path image t tells old new before now f_before f_now (outcome.ReadFault input.Line) of lists line none told for read disk sink = absurd (read refl)
+exceed_done path image t tells old new before now f_before f_now (outcome.ReadFault input.Table) of lists line none told for read disk sink =
     ⊎_elim (λ memory. absurd (cc)) (λ own. absurd own) of
-exceed_done path image t tells old new before now answer of lists line none told for read disk sink = ⊎_elim (λ memory. inr memory) (λ own. absurd own) of
+exceed_done path image t tells old new before now f_before f_now answer of lists line none told for read disk sink =
+    ⊎_elim (λ memory. inr memory) (λ own. absurd own) of
 
 -- where the work isn't begun, the deck isn't touched and nothing is written
-pub exceeds_nothing : (t : TableRows) (tells : Tells) (d : State) (written : Option (List ℕ)) (answer : Outcome) → IsSoundDeck tells d
+pub exceeds_nothing : (t : TableRows) (tells : Tells) (d : State) (written : Option (List ℕ)) (before after : ℕ) (answer : Outcome)
+    → IsSoundDeck tells d
     → (IsPastTable answer → ⊥)
-    → ExceedsImage t tells d d written written answer
-exceeds_nothing t tells d written answer sound early =
+    → ExceedsImage t tells d d written written before after answer
+exceeds_nothing t tells d written before after answer sound early =
     let not : (other : Outcome) → IsPastTable other → answer ≡ other → ⊥ = λ other past e. early (subst IsPastTable (sym e) past) in
     let undone : (answer ≡ outcome.Done) ⊎ (answer ≡ outcome.WriteFault) → ⊥ = λ either.
     ⊎_elim (not outcome.Done tt) (not outcome.WriteFault tt) either in
@@ -429,6 +451,7 @@ exceeds_nothing t tells d written answer sound early =
       few = λ e. omega arith;
       text = λ done told. absurd (undone (inl done));
       part = λ read told. (0, sym (followed_by-nil written));
+      drained = λ fails. absurd (not outcome.DiskFault tt fails);
       unwritten = λ none. refl;
       cut = λ e. inl (refl, refl);
     }

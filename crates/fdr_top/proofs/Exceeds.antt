@@ -4,6 +4,7 @@ use Rattle.std.proofs.Common.{append_assoc, length-append}
 use Rattle.std.specs.Prelude.{OnOk, OnErr}
 use Rattle.std.proofs.lemmas.List.Concat.{flat_map-append}
 use Rattle.std.proofs.lemmas.List.Elements.{filter_map-append}
+use Rattle.fdr_io.specs.Faults.{Rose}
 use Rattle.fdr_io.specs.Output.{Emits, EmitsPart}
 use Rattle.fdr_io.specs.Told.{followed_by}
 use Rattle.fdr_io.proofs.OutputSteps.{finished_part}
@@ -16,12 +17,16 @@ use Rattle.fdr_exceed.specs.Watching.{RepresentsWatch, WatchKept}
 use Rattle.fdr_exceed.specs.declared.rule.Rule.{Rule}
 use Rattle.fdr_readout.specs.Entries.{Entry, row_of_entry}
 use Rattle.fdr_readout.specs.Summary.{rows_among}
-use Rattle.fdr_top.specs.Exceed.{exceedances_of_blocks, steps_of_blocks, text_of_lines}
-use Rattle.fdr_top.specs.Exceeding.{FailsInEntries, FailsInSteps, GivesSteps, HasTakenLines, TakesEntries, WriterKept, entry_steps, rows_with}
-use Rattle.fdr_top.specs.Exceeding.{steps_of_entries}
+use Rattle.fdr_top.specs.Exceed.{ExceedsRead, decided_exceedances, entry_steps, exceedances_of_blocks, steps_of_blocks, steps_of_entries, text_of_lines}
+use Rattle.fdr_top.specs.Exceeding.{FailsInEntries, FailsInSteps, GivesSteps, HasTakenLines, TakesEntries, WriterKept, rows_with}
 use Rattle.fdr_top.specs.ExceedSound.{fails_after, fails_ahead}
 use Rattle.fdr_top.specs.Sessions.{entries_of_blocks}
+use Rattle.fdr_top.specs.SessionsTaken.{decided_of_blocks}
+use Rattle.fdr_frame.specs.WordCount.{IsWordCount}
+use Rattle.fdr_io.proofs.Telling.{followed_by-nil}
 use Rattle.fdr_top.proofs.ExceedSteps.{steps_of_blocks_is}
+use Rattle.fdr_top.proofs.ReadLines.{drained_after}
+use Rattle.fdr_top.proofs.SessionEntries.{decided_of_none}
 use Rattle.fdr_top.proofs.SessionSummaries.{few_rows_of_blocks}
 use Rattle.fdr_top.proofs.WatchLines.{written_after}
 
@@ -37,6 +42,18 @@ none_taken w stands = subst (RepresentsWatch w []) (sym (ap (length {A = List �
 first_lines : (rules : List Rule) (more : List WatchStep) (lines : List (List ℕ)) → exceedances rules ([] ++ more) ≡ exceedances rules [] ++ lines
     → exceedances rules more ≡ lines
 first_lines rules more lines ended = ended ∙ ap (λ (ls : List (List ℕ)). ls ++ lines) (no_lines rules)
+
+-- nothing was read
+pub none_exceeded : (rules : List Rule) (t : TableRows) (version : ℕ) (whole : List Block) (written : Option (List ℕ)) → IsWordCount t.frame.words
+    → ExceedsRead rules t version whole written written
+unfolding decided_exceedances
+none_exceeded rules t version whole written count = record {
+  read = [];
+  unread = whole;
+  parted = refl;
+  text = sym (ap (λ (es : List Entry). followed_by written (text_of_lines (exceedances rules (steps_of_entries es)))) (decided_of_none t version count)
+      ∙ ap (λ (ls : List (List ℕ)). followed_by written (text_of_lines ls)) (no_lines rules) ∙ followed_by-nil written);
+}
 
 -- a watch that was given nothing yet, and blocks by a table
 module _ (o : Option (List ℕ)) (before : WriterKept) (t : TableRows) (version : ℕ) (run : List Block) (empty : before.waits ≡ [])
@@ -130,3 +147,23 @@ module _ (o : Option (List ℕ)) (before : WriterKept) (t : TableRows) (version 
       ∙ ap (λ (s : List WatchStep). s ++ ResetStep ∷ []) (sym (ap steps_of_entries is ∙ flat_map-append entry_steps entries rest)) in
       part_written q (subst (FailsInSteps o q before []) steps
       (fails_ahead o q before [] (steps_of_entries entries) (steps_of_entries rest ++ ResetStep ∷ []) stopped))
+
+  -- and where all that waited went out, these are the lines that the blocks decide which were read
+  pub first_read : {E : Type 0} (p q : Option (List ℕ)) (now : WriterKept) (read unread : List Block) (rest : List Entry) (f_start f_mid f_now : ℕ)
+      (r : Result (Unit {0}) E) → run ≡ read ++ unread → TakesEntries o p before now (decided_of_blocks t version read)
+      → all ≡ decided_of_blocks t version read ++ rest → f_mid ≡ f_start → OnOk r (q ≡ followed_by p now.waits) → OnErr r (Rose f_mid f_now)
+      → (Rose f_start f_now → ⊥) → ExceedsRead rules t version run o q
+  unfolding decided_exceedances
+  first_read p q now read unread rest f_start f_mid f_now r parted taken is kept wrote cause none =
+      let entries = decided_of_blocks t version read in
+      let some : GivesSteps o p before now [] (steps_of_entries entries) = taken.given (few_first entries rest is) [] (none_taken before.watch stands) in
+      let emits : Emits o p [] now.waits (text_of_lines some.lines) =
+      subst (λ (w : List ℕ). Emits o p w now.waits (text_of_lines some.lines)) empty some.emits in
+      let lines : exceedances rules (steps_of_entries entries) ≡ some.lines = first_lines rules (steps_of_entries entries) some.lines some.ended in
+      record {
+        read = read;
+        unread = unread;
+        parted = parted;
+        text = drained_after o p q now.waits (text_of_lines some.lines) f_start f_mid f_now r emits kept wrote cause none
+            ∙ ap (λ (ls : List (List ℕ)). followed_by o (text_of_lines ls)) (sym lines);
+      }

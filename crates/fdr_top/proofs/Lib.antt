@@ -31,6 +31,7 @@ pub mod Coded
 pub mod ReadLines
 pub mod ListedImages
 pub mod Salvages
+pub mod ReadRuns
 pub mod Sizes
 pub mod Drills
 pub mod Drilled

@@ -46,7 +46,8 @@ module _ (table path : List ℕ) (r : CommandRun) (told : IsTold (exceed_image t
   abbrev exceeds : TableRows → Supplied → Effect
   exceeds t came = by_image t r.work.old.held (by_rules t came (exceeded t came))
 
-  module _ (t : TableRows) (does : ExceedsImage t r.work.tells r.work.old r.work.new r.work.written_before r.work.written_now r.work.answer) where
+  module _ (t : TableRows) (does : ExceedsImage t r.work.tells r.work.old r.work.new r.work.written_before r.work.written_now
+      r.work.sink_before r.work.sink_now r.work.answer) where
     exceed_left : Becomes stays r.work.tells r.work.old r.work.new
     exceed_left = (does.disk, does.learns.bytes (told.image tt), runs.unused.announced (λ no. no))
 

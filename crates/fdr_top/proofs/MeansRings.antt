@@ -63,7 +63,8 @@ module _ (table path : List ℕ) (ring : Option (ℕ × ℕ)) (r : CommandRun) (
   salvages t = by_ring ring t r.work.old.held (salvaged t)
 
   -- what is left is how the image is refused
-  module _ (t : TableRows) (does : SalvagesImage t ring r.work.tells r.work.old r.work.new r.work.written_before r.work.written_now r.work.answer)
+  module _ (t : TableRows) (does : SalvagesImage t ring r.work.tells r.work.old r.work.new r.work.written_before r.work.written_now
+      r.work.sink_before r.work.sink_now r.work.answer)
       (reads : (r.work.answer ≡ outcome.Done) ⊎ (r.work.answer ≡ outcome.WriteFault) → salvages t ≡ salvaged t)
       (begun : (r.work.written_now ≡ r.work.written_before) ⊎ (salvages t ≡ salvaged t))
       (either : (salvages t ≡ salvaged t) ⊎ IsImageRefusal (salvages t))
@@ -86,7 +87,8 @@ module _ (table path : List ℕ) (ring : Option (ℕ × ℕ)) (r : CommandRun) (
     salvage_at (outcome.ReadFault input.Line) e own = absurd own
     salvage_at a e own = absurd own
 
-  pub means_salvaged : ((t : TableRows) → SalvagesImage t ring r.work.tells r.work.old r.work.new r.work.written_before r.work.written_now r.work.answer
+  pub means_salvaged : ((t : TableRows) → SalvagesImage t ring r.work.tells r.work.old r.work.new r.work.written_before r.work.written_now
+      r.work.sink_before r.work.sink_now r.work.answer
       → IsOwn (salvage_image table path ring) r.work.answer → Refines (salvage_image table path ring) (salvages t) r.work)
       → Core (salvage_image table path ring) r
   means_salvaged at = means_unpulled (salvage_image table path ring) (λ t image. by_ring ring t image (writes (salvage_in t ring image) outcome.Done)) r

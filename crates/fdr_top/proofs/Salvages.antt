@@ -5,6 +5,7 @@ use Rattle.std.specs.Prelude.{IsTrue, nat_lt, take, is_none}
 use Rattle.std.proofs.lemmas.Bool.Decides.{nat_tests}
 use Rattle.std.specs.List.{flat_map}
 use Rattle.std.proofs.lemmas.Grind.{flat_map-append}
+use Rattle.fdr_io.specs.Faults.{Rose}
 use Rattle.fdr_io.specs.Told.{followed_by}
 use Rattle.fdr_io.specs.declared.Input.TheVariants as input
 use Rattle.fdr_io.proofs.Telling.{followed_by-nil}
@@ -28,8 +29,8 @@ use Rattle.fdr_top.specs.Answers.{IsOwn, Yes}
 use Rattle.fdr_top.specs.List.{IsOpened, RefusesOpening}
 use Rattle.fdr_top.specs.Recover.{OnlyLooks}
 use Rattle.fdr_top.specs.Refusals.{IsReadable, RefusesBy, RefusesLength, ring_fault}
-use Rattle.fdr_top.specs.Salvage.{AreRunsOf, CanBeSalvaged, IsOpenedBy, SalvagesImage, entries_in_run, entries_in_runs, run_listing, run_text}
-use Rattle.fdr_top.specs.Salvage.{salvage_in, salvage_text}
+use Rattle.fdr_top.specs.Salvage.{AreRunsOf, CanBeSalvaged, IsOpenedBy, SalvagesImage, SalvagesRead, entries_in_run, entries_in_runs, run_listing}
+use Rattle.fdr_top.specs.Salvage.{run_text, salvage_header, salvage_in, salvage_text}
 use Rattle.fdr_top.specs.Sessions.{entries_of_blocks, listing_of_blocks}
 use Rattle.fdr_top.specs.Tables.{ByTable}
 use Rattle.fdr_top.specs.declared.listing.ImageReader.{ImageReader}
@@ -45,7 +46,7 @@ use Rattle.fdr_top.proofs.TableAnswers.{past_not_memory, table_not_past}
 -- ---- the lines of runs
 
 -- a run has as many numbers as blocks
-length_of_run : (run : List Block) → run_length (run_numbers run) ≡ length run
+pub length_of_run : (run : List Block) → run_length (run_numbers run) ≡ length run
 length_of_run [] = refl
 length_of_run (b ∷ bs) = omega arith
 
@@ -60,7 +61,7 @@ lines_of_run t h image run same =
     lines_of_blocks t h.version (blocks_in_run h image (run_numbers run)) ∙ ap (listing_of_blocks t h.version) same in
     ap₂ (λ (xs ys : List ℕ). xs ++ ys) line blocks
 
-lines_of_runs : (t : TableRows) (h : Header) (image : List ℕ) (rs : List (List Block)) → map (blocks_in_run h image) (map run_numbers rs) ≡ rs
+pub lines_of_runs : (t : TableRows) (h : Header) (image : List ℕ) (rs : List (List Block)) → map (blocks_in_run h image) (map run_numbers rs) ≡ rs
     → flat_map (entry_lines t) (entries_in_runs t h image (map run_numbers rs)) ≡ flat_map (run_listing t h.version) rs
 lines_of_runs t h image [] same = refl
 lines_of_runs t h image (r ∷ rs) same =
@@ -166,12 +167,14 @@ readable_kept (Some ring) tells old mid new same readable = ap (ring_fault ring)
 -- ---- what is answered
 
 -- where the image isn't opened, or nothing of it is listed
-pub unsalvaged : (t : TableRows) (ring : Option (ℕ × ℕ)) (tells : Tells) (old new : State) (written : Option (List ℕ)) (answer : Outcome)
-    → OnlyLooks tells old new → RefusesOpening answer → RefusesBy ring t tells old new answer → SalvagesImage t ring tells old new written written answer
-unsalvaged t ring tells old new written answer looks shut refuses = record {
+pub unsalvaged : (t : TableRows) (ring : Option (ℕ × ℕ)) (tells : Tells) (old new : State) (written : Option (List ℕ)) (before now : ℕ)
+    (answer : Outcome) → OnlyLooks tells old new → RefusesOpening answer → RefusesBy ring t tells old new answer
+    → SalvagesImage t ring tells old new written written before now answer
+unsalvaged t ring tells old new written before now answer looks shut refuses = record {
   looks = looks;
   text = λ done told. absurd (shut_not_done answer shut done);
   part = λ told. (0, sym (followed_by-nil written));
+  drained = λ fails told none. inl refl;
   good = λ either told. absurd (⊎_elim (shut_not_done answer shut) (shut_not_write answer shut) either);
   begun = inl refl;
   image = refuses;
@@ -179,17 +182,26 @@ unsalvaged t ring tells old new written answer looks shut refuses = record {
 
 -- where the runs are found and listed
 pub runs_salvaged : (t : TableRows) (ring : Option (ℕ × ℕ)) (tells : Tells) (old mid new : State) (r : ImageReader) (before now : Option (List ℕ))
-    (answer : Outcome) → IsSoundDeck tells old → OnlyLooks tells old mid → Looks tells mid new → IsOpenedBy ring t tells old mid r → IsOfBlocks answer
+    (sink_before sink_now : ℕ) (answer : Outcome) → IsSoundDeck tells old → OnlyLooks tells old mid → Looks tells mid new
+    → IsOpenedBy ring t tells old mid r → IsOfBlocks answer
     → (answer ≡ outcome.Done → IsTrue tells.bytes → now ≡ followed_by before (salvage_text t r.header mid.held))
     → (IsTrue tells.bytes → (k : ℕ) × (now ≡ followed_by before (take k (salvage_text t r.header mid.held))))
-    → SalvagesImage t ring tells old new before now answer
-runs_salvaged t ring tells old mid new r before now answer sound first second opened of text part =
+    → (answer ≡ outcome.DiskFault → IsTrue tells.bytes → (Rose sink_before sink_now → ⊥)
+    → (now ≡ before) ⊎ SalvagesRead t r.header mid.held before now)
+    → SalvagesImage t ring tells old new before now sink_before sink_now answer
+runs_salvaged t ring tells old mid new r before now sink_before sink_now answer sound first second opened of text part drained =
     let listed : IsTrue tells.bytes → salvage_text t r.header mid.held ≡ salvage_in t ring old.held = λ told.
     ap (salvage_text t r.header) first.disk.held ∙ ap (λ (h : Header). salvage_text t h old.held) (opened.header told) in
     record {
       looks = OnlyLooks-then tells old mid new sound first second;
       text = λ done told. text done told ∙ ap (followed_by before) (listed told);
       part = λ told. let p = part told in (p.0, p.1 ∙ ap (λ (l : List ℕ). followed_by before (take p.0 l)) (listed told));
+      drained = λ fails told none. ⊎_elim
+          (λ (same : now ≡ before). inl same)
+          (λ (read : SalvagesRead t r.header mid.held before now). inr (
+          subst (λ (x : List ℕ). SalvagesRead t (salvage_header t ring old.held) x before now) first.disk.held
+          (subst (λ (h : Header). SalvagesRead t h mid.held before now) (opened.header told) read)))
+          (drained fails told none);
       good = λ either told. opened.image told;
       begun = inr opened.image;
       image = takes_by ring t tells old new answer (of_blocks_begun answer of) (readable_kept ring tells old mid new second.extent opened.readable)
@@ -212,10 +224,10 @@ opening_own path image ring t tells old new outcome.NoMemory shut refuses = inl 
 opening_own path image ring t tells old new answer shut refuses = absurd shut
 
 -- where the table isn't read, the deck isn't touched and nothing is salvaged
-pub salvages_nothing : (ring : Option (ℕ × ℕ)) (tells : Tells) (rest now : Option (List ℕ)) (d : State) (written : Option (List ℕ)) (answer : Outcome)
-    → IsSoundDeck tells d → (answer ≡ outcome.NoMemory) ⊎ IsOfTable answer
-    → ByTable rest now answer (λ (t : TableRows). SalvagesImage t ring tells d d written written answer)
-salvages_nothing ring tells rest now d written answer sound either =
+pub salvages_nothing : (ring : Option (ℕ × ℕ)) (tells : Tells) (rest now : Option (List ℕ)) (d : State) (written : Option (List ℕ)) (before after : ℕ)
+    (answer : Outcome) → IsSoundDeck tells d → (answer ≡ outcome.NoMemory) ⊎ IsOfTable answer
+    → ByTable rest now answer (λ (t : TableRows). SalvagesImage t ring tells d d written written before after answer)
+salvages_nothing ring tells rest now d written before after answer sound either =
     let early : IsPastTable answer → ⊥ = λ past. ⊎_elim
     (λ (m : answer ≡ outcome.NoMemory). past_not_memory answer past m)
     (λ (of : IsOfTable answer). table_not_past answer of past) either in
@@ -227,6 +239,7 @@ salvages_nothing ring tells rest now d written answer sound either =
         looks = OnlyLooks-here tells d sound;
         text = λ done told. absurd (not outcome.Done tt done);
         part = λ told. (0, sym (followed_by-nil written));
+        drained = λ fails told none. inl refl;
         good = λ either told. absurd (⊎_elim (not outcome.Done tt) (not outcome.WriteFault tt) either);
         begun = inl refl;
         image = refuses_by_nothing ring (table_or rest) tells d d answer early;
@@ -248,20 +261,20 @@ not_different t (Some ring) tells old new image table refuses told can = refuses
 
 -- the image can be salvaged, and nothing fails: its runs are listed, or memory ended
 pub salvage_done : (path image : List ℕ) (ring : Option (ℕ × ℕ)) (t : TableRows) (tells : Tells) (old new : State) (before now : Option (List ℕ))
-    (answer : Outcome) → (answer ≡ outcome.NoMemory) ⊎ IsOwn (salvage_image path image ring) answer → IsSoundDeck tells old
-    → SalvagesImage t ring tells old new before now answer → IsTrue tells.bytes → CanBeSalvaged t ring old.held
+    (f_before f_now : ℕ) (answer : Outcome) → (answer ≡ outcome.NoMemory) ⊎ IsOwn (salvage_image path image ring) answer → IsSoundDeck tells old
+    → SalvagesImage t ring tells old new before now f_before f_now answer → IsTrue tells.bytes → CanBeSalvaged t ring old.held
     → (answer ≡ outcome.DiskFault → ⊥) → (answer ≡ outcome.WriteFault → ⊥) → (answer ≡ outcome.Done) ⊎ (answer ≡ outcome.NoMemory)
-salvage_done path image ring t tells old new before now outcome.Done of sound does told can disk sink = inl refl
-salvage_done path image ring t tells old new before now (outcome.ImageRefused why) of sound does told can disk sink =
+salvage_done path image ring t tells old new before now f_before f_now outcome.Done of sound does told can disk sink = inl refl
+salvage_done path image ring t tells old new before now f_before f_now (outcome.ImageRefused why) of sound does told can disk sink =
     absurd (not_refused t ring tells old new why sound does.looks does.image told can)
-salvage_done path image ring t tells old new before now (outcome.WordsDiffer w u) of sound does told can disk sink =
+salvage_done path image ring t tells old new before now f_before f_now (outcome.WordsDiffer w u) of sound does told can disk sink =
     absurd (not_different t ring tells old new w u does.image told can)
-salvage_done path image ring t tells old new before now outcome.WriteFault of sound does told can disk sink = absurd (sink refl)
-salvage_done path image ring t tells old new before now outcome.DiskFault of sound does told can disk sink = absurd (disk refl)
-salvage_done path image ring t tells old new before now outcome.NoMemory of sound does told can disk sink = inr refl
-salvage_done path image ring t tells old new before now (outcome.ReadFault input.Table) of sound does told can disk sink =
+salvage_done path image ring t tells old new before now f_before f_now outcome.WriteFault of sound does told can disk sink = absurd (sink refl)
+salvage_done path image ring t tells old new before now f_before f_now outcome.DiskFault of sound does told can disk sink = absurd (disk refl)
+salvage_done path image ring t tells old new before now f_before f_now outcome.NoMemory of sound does told can disk sink = inr refl
+salvage_done path image ring t tells old new before now f_before f_now (outcome.ReadFault input.Table) of sound does told can disk sink =
     ⊎_elim (λ memory. absurd (cc)) (λ own. absurd own) of
-salvage_done path image ring t tells old new before now (outcome.ReadFault input.Line) of sound does told can disk sink =
+salvage_done path image ring t tells old new before now f_before f_now (outcome.ReadFault input.Line) of sound does told can disk sink =
     ⊎_elim (λ memory. absurd (cc)) (λ own. absurd own) of
-salvage_done path image ring t tells old new before now answer of sound does told can disk sink =
+salvage_done path image ring t tells old new before now f_before f_now answer of sound does told can disk sink =
     ⊎_elim (λ memory. inr memory) (λ own. absurd own) of

@@ -14,9 +14,9 @@ use Rattle.fdr_exceed.specs.Exceedances.{WatchStep, exceedances}
 use Rattle.fdr_exceed.specs.Watching.{RepresentsWatch, WatchKept, line_due}
 use Rattle.fdr_exceed.specs.declared.rule.Rule.{Rule}
 use Rattle.fdr_exceed.proofs.Stepping.{exceedances-push, lines_of_step}
-use Rattle.fdr_top.specs.Exceed.{text_of_lines}
+use Rattle.fdr_top.specs.Exceed.{steps_of_entries, text_of_lines}
 use Rattle.fdr_readout.specs.Entries.{Entry}
-use Rattle.fdr_top.specs.Exceeding.{EndLines, FailsInSteps, GivesSteps, HasTakenLines, TakesEntries, WriterKept, rows_with, steps_of_entries}
+use Rattle.fdr_top.specs.Exceeding.{EndLines, FailsInSteps, GivesSteps, HasTakenLines, TakesEntries, WriterKept, rows_with}
 
 abbrev all_lines : WatchKept → List WatchStep → List (List ℕ)
 all_lines w steps = exceedances w.rules steps

@@ -46,8 +46,10 @@ DoesWork (record_line path image) t r = RecordsTrace t r.tells r.old r.new r.ans
 DoesWork (recover_image image) t r = RecoversImage image r
 DoesWork (list_image path image) t r = ListsImage t r.tells r.old r.new r.written_before r.written_now r.sink_before r.sink_now r.answer
 DoesWork (upgrade_image image) t r = UpgradesImage r.tells r.old r.new r.answer
-DoesWork (salvage_image path image ring) t r = SalvagesImage t ring r.tells r.old r.new r.written_before r.written_now r.answer
-DoesWork (exceed_image path image) t r = ExceedsImage t r.tells r.old r.new r.written_before r.written_now r.answer
+DoesWork (salvage_image path image ring) t r = SalvagesImage t ring r.tells r.old r.new r.written_before r.written_now
+    r.sink_before r.sink_now r.answer
+DoesWork (exceed_image path image) t r = ExceedsImage t r.tells r.old r.new r.written_before r.written_now r.sink_before r.sink_now
+    r.answer
 DoesWork (drill_image path image seed frames) t r =
     DrillsImage t seed frames r.tells r.old r.new r.written_before r.written_now r.answer
 

@@ -1,6 +1,7 @@
 -- What `exceed` promises: the exceedances of the rules on the input, in the blocks of the recovered run of what the disk holds.
 use Rattle.std.specs.Prelude.{◌≡◌, ◌⊎◌, ℕ, ◌≤◌, if◌then◌else◌, List, [], ◌∷◌, ◌++◌, length, map, take, Option, Some, None, IsTrue}
 use Rattle.std.specs.List.{flat_map}
+use Rattle.fdr_io.specs.Faults.{Rose}
 use Rattle.fdr_io.specs.Told.{followed_by}
 use Rattle.fdr_io.specs.declared.Input.TheVariants as input
 use Rattle.fdr_deck.specs.State.{State, Tells}
@@ -23,9 +24,11 @@ use Rattle.fdr_exceed.specs.declared.fault.RuleFault.TheVariants as fault
 use Rattle.fdr_exceed.specs.declared.fault.RulesError.{RulesError}
 use Rattle.fdr_exceed.specs.declared.fault.RulesError.TheVariants as error
 use Rattle.fdr_exceed.specs.declared.rule.Rule.{Rule}
+use Rattle.fdr_readout.specs.Entries.{Entry, GapEntry, FrameEntry, RowEntry, LineEntry}
 use Rattle.fdr_readout.specs.Listing.{is_frame_linked, rows_at}
 use Rattle.fdr_top.specs.Refusals.{RefusesImage}
 use Rattle.fdr_top.specs.Sessions.{listed_apart}
+use Rattle.fdr_top.specs.SessionsTaken.{decided_of_blocks}
 use Rattle.fdr_top.specs.Stages.{IsPastTable}
 use Rattle.fdr_top.specs.declared.outcome.Outcome.{Outcome}
 use Rattle.fdr_top.specs.declared.outcome.Outcome.TheVariants as outcome
@@ -56,6 +59,30 @@ text_of_lines lines = flat_map (λ (line : List ℕ). line) lines
 unfoldable pub exceedances_of_blocks : List Rule → TableRows → ℕ → List Block → List ℕ
 exceedances_of_blocks rules t version blocks = text_of_lines (exceedances rules (steps_of_blocks t version blocks))
 
+-- what a watch is given of an entry: a stretch ends at a frame that isn't linked to the one before it
+abbrev pub entry_steps : Entry → List WatchStep
+entry_steps (GapEntry a n) = []
+entry_steps (FrameEntry linked) = if linked then [] else ResetStep ∷ []
+entry_steps (RowEntry r) = RowStep r ∷ []
+entry_steps (LineEntry line) = []
+
+-- what a watch is given of entries, one after another
+abbrev pub steps_of_entries : List Entry → List WatchStep
+steps_of_entries entries = flat_map entry_steps entries
+
+-- the lines of the exceedances of rules that end in what blocks decide which may go on
+unfoldable pub decided_exceedances : List Rule → TableRows → ℕ → List Block → List ℕ
+decided_exceedances rules t version blocks = text_of_lines (exceedances rules (steps_of_entries (decided_of_blocks t version blocks)))
+
+-- Some first blocks of a list were read: the lines of all exceedances were written that end in what they decide, and nothing
+-- else.
+pub record ExceedsRead (rules : List Rule) (t : TableRows) (version : ℕ) (whole : List Block) (written_before written_now : Option (List ℕ))
+    : Type 0 where
+  pub read : List Block
+  pub unread : List Block
+  pub parted : whole ≡ read ++ unread
+  pub text : written_now ≡ followed_by written_before (decided_exceedances rules t version read)
+
 -- the rules that these bytes say
 abbrev pub rules_in : TableRows → List ℕ → List Rule
 rules_in t bytes = rules_of t (records_of bytes)
@@ -70,7 +97,7 @@ HasReadBlocks answer = (answer ≡ outcome.Done) ⊎ ((answer ≡ outcome.WriteF
 
 -- The rules were pulled, and the exceedances in the image were listed, or the answer says why they weren't.
 pub record ExceedsImage (t : TableRows) (tells : Tells) (old new : State) (written_before written_now : Option (List ℕ))
-    (answer : Outcome) : Type 0 where
+    (sink_before sink_now : ℕ) (answer : Outcome) : Type 0 where
   pub disk : KeepsDisk old new
   pub learns : LearnsExtent tells old new
   pub stops : LeavesStops tells old new
@@ -93,6 +120,10 @@ pub record ExceedsImage (t : TableRows) (tells : Tells) (old new : State) (writt
       (exceedances_in t pulled old.held)
   pub part : HasReadBlocks answer → IsTrue tells.bytes
       → (k : ℕ) × (written_now ≡ followed_by written_before (take k (exceedances_in t pulled old.held)))
+  -- Where the disk failed and the output didn't, the lines of all exceedances went out that end in what some first blocks decide:
+  -- none waits, and none is cut.
+  pub drained : answer ≡ outcome.DiskFault → IsTrue tells.bytes → (Rose sink_before sink_now → ⊥)
+      → ExceedsRead (rules_in t pulled) t (header_in old.held).version (run_in old.held) written_before written_now
   pub unwritten : (HasReadBlocks answer → ⊥) → written_now ≡ written_before
   -- Where the disk failed, it did before anything was pulled or written, or once the input was at its end and the image known to
   -- be one for the table's frames.

@@ -15,7 +15,7 @@ use Rattle.fdr_readout.specs.Summary.{rows_among}
 use Rattle.fdr_readout.specs.Takers.{TakerLaws}
 use Rattle.fdr_top.specs.Exceed.{text_of_lines}
 use Rattle.fdr_top.specs.Exceeding.{WriterKept, HasTakenLines, EndLines, GivesSteps, FailsInSteps, TakesEntries, FailsInEntries, rows_with}
-use Rattle.fdr_top.specs.Exceeding.{entry_steps, steps_of_entries}
+use Rattle.fdr_top.specs.Exceed.{entry_steps, steps_of_entries}
 
 -- ---- lines that further steps end
 

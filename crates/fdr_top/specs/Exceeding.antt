@@ -1,29 +1,17 @@
 -- What a watch is given of entries, and which lines that ends.
-use Rattle.std.specs.Prelude.{ℕ, ◌≡◌, ◌+◌, ◌≤◌, ◌^◌, if◌then◌else◌, List, [], ◌∷◌, ◌++◌, length, Option}
-use Rattle.std.specs.List.{flat_map}
+use Rattle.std.specs.Prelude.{ℕ, ◌≡◌, ◌+◌, ◌≤◌, ◌^◌, List, ◌++◌, length, Option}
 use Rattle.fdr_io.specs.Output.{Emits, EmitsPart}
-use Rattle.fdr_exceed.specs.Exceedances.{WatchStep, RowStep, ResetStep, exceedances}
+use Rattle.fdr_exceed.specs.Exceedances.{WatchStep, exceedances}
 use Rattle.fdr_exceed.specs.Watching.{RepresentsWatch, WatchKept}
 use Rattle.fdr_exceed.specs.declared.rule.Rule.{Rule}
-use Rattle.fdr_readout.specs.Entries.{Entry, GapEntry, FrameEntry, RowEntry, LineEntry}
+use Rattle.fdr_readout.specs.Entries.{Entry}
 use Rattle.fdr_readout.specs.Summary.{rows_among}
-use Rattle.fdr_top.specs.Exceed.{text_of_lines}
+use Rattle.fdr_top.specs.Exceed.{steps_of_entries, text_of_lines}
 
 -- a watch, and the bytes that wait to be written
 pub record WriterKept : Type 0 where
   pub watch : WatchKept
   pub waits : List ℕ
-
--- what a watch is given of an entry: a stretch ends at a frame that isn't linked to the one before it
-abbrev pub entry_steps : Entry → List WatchStep
-entry_steps (GapEntry a n) = []
-entry_steps (FrameEntry linked) = if linked then [] else ResetStep ∷ []
-entry_steps (RowEntry r) = RowStep r ∷ []
-entry_steps (LineEntry line) = []
-
--- what a watch is given of entries, one after another
-abbrev pub steps_of_entries : List Entry → List WatchStep
-steps_of_entries entries = flat_map entry_steps entries
 
 -- The watch represents these steps, and all lines that they end were taken.
 abbrev pub HasTakenLines : WatchKept → List WatchStep → Type 0

@@ -1,6 +1,7 @@
 -- What `salvage` promises: the listing of every run of blocks that the disk still holds.
 use Rattle.std.specs.Prelude.{◌≡◌, ◌⊎◌, ◌≤◌, ℕ, List, [], ◌∷◌, ◌++◌, Option, Some, None, IsTrue, length, map, take, codes, decimal}
 use Rattle.std.specs.List.{flat_map}
+use Rattle.fdr_io.specs.Faults.{Rose}
 use Rattle.fdr_io.specs.Told.{followed_by}
 use Rattle.fdr_deck.specs.State.{State, Tells}
 use Rattle.fdr_slot.specs.declared.image.Header.{Header}
@@ -16,6 +17,7 @@ use Rattle.fdr_readout.specs.Reading.{ReadsEvents, decided_past}
 use Rattle.fdr_top.specs.Recover.{OnlyLooks}
 use Rattle.fdr_top.specs.Refusals.{IsReadable, RefusesBy, ring_fault}
 use Rattle.fdr_top.specs.Sessions.{entries_of_blocks, listing_of_blocks}
+use Rattle.fdr_top.specs.SessionsTaken.{decided_lines, decided_of_blocks}
 use Rattle.fdr_top.specs.declared.listing.ImageReader.{ImageReader}
 use Rattle.fdr_top.specs.declared.outcome.Outcome.{Outcome}
 use Rattle.fdr_top.specs.declared.outcome.Outcome.TheVariants as outcome
@@ -47,12 +49,29 @@ salvage_text t h image = flat_map (run_listing t h.version) (runs_of h image)
 abbrev pub salvage_in : TableRows → Option (ℕ × ℕ) → List ℕ → List ℕ
 salvage_in t ring image = salvage_text t (salvage_header t ring image) image
 
+-- Some first runs of an image were read, and some first blocks of the next: the listing of these runs was written, the line of
+-- the next, and all lines that these blocks decide, and nothing else.
+pub record SalvagesRead (t : TableRows) (h : Header) (image : List ℕ) (written_before written_now : Option (List ℕ)) : Type 0 where
+  pub earlier : List (List Block)
+  pub run : List Block
+  pub later : List (List Block)
+  pub runs : runs_of h image ≡ earlier ++ run ∷ later
+  pub read : List Block
+  pub unread : List Block
+  pub parted : run ≡ read ++ unread
+  pub text : written_now ≡ followed_by written_before (flat_map (run_listing t h.version) earlier
+      ++ (run_text (run_numbers run).first (length run) ++ decided_lines t h.version read))
+
 -- The image was salvaged: what was written, and which refusal is answered.
 pub record SalvagesImage (t : TableRows) (ring : Option (ℕ × ℕ)) (tells : Tells) (old new : State) (written_before written_now : Option (List ℕ))
-    (answer : Outcome) : Type 0 where
+    (sink_before sink_now : ℕ) (answer : Outcome) : Type 0 where
   pub looks : OnlyLooks tells old new
   pub text : answer ≡ outcome.Done → IsTrue tells.bytes → written_now ≡ followed_by written_before (salvage_in t ring old.held)
   pub part : IsTrue tells.bytes → (k : ℕ) × (written_now ≡ followed_by written_before (take k (salvage_in t ring old.held)))
+  -- Where the disk failed and the output didn't, nothing was written, or all lines that some first runs and blocks decide: none
+  -- waits, and none is cut.
+  pub drained : answer ≡ outcome.DiskFault → IsTrue tells.bytes → (Rose sink_before sink_now → ⊥)
+      → (written_now ≡ written_before) ⊎ SalvagesRead t (salvage_header t ring old.held) old.held written_before written_now
   pub good : (answer ≡ outcome.Done) ⊎ (answer ≡ outcome.WriteFault) → IsTrue tells.bytes → CanBeSalvaged t ring old.held
   -- Nothing was written, or the image can be salvaged.
   pub begun : (written_now ≡ written_before) ⊎ (IsTrue tells.bytes → CanBeSalvaged t ring old.held)
@@ -79,3 +98,32 @@ entries_in_run t h image run = LineEntry (run_text run.first (run_length run)) �
 -- the entries of runs
 abbrev pub entries_in_runs : TableRows → Header → List ℕ → List Run → List Entry
 entries_in_runs t h image runs = flat_map (entries_in_run t h image) runs
+
+-- the entries that a run with these numbers decides of which these blocks were read: its line, and what they decide
+abbrev pub decided_in_run : TableRows → Header → Run → List Block → List Entry
+decided_in_run t h run read = LineEntry (run_text run.first (run_length run)) ∷ decided_of_blocks t h.version read
+
+-- The first blocks of a run with these numbers were read, and the taker took its line and what they decide, which comes first in
+-- all that the run decides.
+pub record TakesFirstOfRun {S O : Type 0} (took : TableRows → S → O → S → O → List Entry → Type 0) (t : TableRows) (h : Header)
+    (image : List ℕ) (run : Run) (first : S) (out_first : O) (now : S) (out_now : O) : Type 0 where
+  pub read : List Block
+  pub unread : List Block
+  pub parted : blocks_in_run h image run ≡ read ++ unread
+  pub taken : took t first out_first now out_now (decided_in_run t h run read)
+  pub later : List Entry
+  pub ahead : entries_in_run t h image run ≡ decided_in_run t h run read ++ later
+
+-- Of runs with these numbers the first ones were read, and the first blocks of the next, and the taker took what they decide.
+pub record TakesFirstRuns {S O : Type 0} (took : TableRows → S → O → S → O → List Entry → Type 0) (t : TableRows) (h : Header)
+    (image : List ℕ) (runs : List Run) (first : S) (out_first : O) (now : S) (out_now : O) : Type 0 where
+  pub earlier : List Run
+  pub run : Run
+  pub others : List Run
+  pub in_order : runs ≡ earlier ++ run ∷ others
+  pub read : List Block
+  pub unread : List Block
+  pub parted : blocks_in_run h image run ≡ read ++ unread
+  pub taken : took t first out_first now out_now (entries_in_runs t h image earlier ++ decided_in_run t h run read)
+  pub later : List Entry
+  pub ahead : entries_in_runs t h image runs ≡ (entries_in_runs t h image earlier ++ decided_in_run t h run read) ++ later

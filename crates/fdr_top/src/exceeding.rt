@@ -24,7 +24,7 @@ ghost use Rattle.fdr_readout.specs.Reading.{ReadsEvents, decided_past};
 ghost use Rattle.fdr_words.specs.Forms.{exceed_image};
 ghost use Rattle.fdr_top.specs.Answers.{IsOwn, KeepsInputAndFaults};
 ghost use Rattle.fdr_top.specs.Commands.{Works};
-ghost use Rattle.fdr_top.specs.Exceed.{ExceedsImage, HasPulledRules, HasReadBlocks, HasRefusedRules, IsRulesAnswer, exceedances_of_blocks, rules_in, rules_refusal, text_of_lines};
+ghost use Rattle.fdr_top.specs.Exceed.{ExceedsImage, ExceedsRead, HasPulledRules, HasReadBlocks, HasRefusedRules, IsRulesAnswer, exceedances_of_blocks, rules_in, rules_refusal, text_of_lines};
 ghost use Rattle.fdr_top.specs.Exceeding.{FailsInSteps, GivesSteps, HasTakenLines, WriterKept};
 ghost use Rattle.fdr_top.specs.ExceedSound.{exceed_laws};
 ghost use Rattle.fdr_top.specs.Refusals.{HasHeader};
@@ -345,6 +345,9 @@ fn write_exceedances<D: Deck, O: Sink>(
     ensures part { IsTrue D.tells.bytes → (k : ℕ) × (O.written out.new ≡ followed_by (O.written out.old)
         (take k (exceedances_of_blocks blocks.old.taker.watch.rules blocks.old.table.now header.now.version
         (recovered_run header.now (D.state deck.old).held)))) }
+    ensures drained { result ≡ Outcome.DiskFault → IsTrue D.tells.bytes → (Rose (O.faults out.old) (O.faults out.new) → ⊥)
+        → ExceedsRead blocks.old.taker.watch.rules blocks.old.table.now header.now.version
+        (recovered_run header.now (D.state deck.old).held) (O.written out.old) (O.written out.new) }
     ensures looks { Looks D.tells (D.state deck.old) (D.state deck.new) }
     ensures disk_fault { result ≡ Outcome.DiskFault
         → Rose (D.state deck.old).disk_faults (D.state deck.new).disk_faults }
@@ -386,7 +389,7 @@ fn list_exceedances<D: Deck, O: Sink>(
     requires { IsWordCount sound.now.frame.words }
     ensures answer { (path image : List ℕ) → (result ≡ Outcome.NoMemory) ⊎ IsOwn (exceed_image path image) result }
     ensures lists { ExceedsImage sound.now D.tells (D.state deck.old) (D.state deck.new)
-        (O.written out.old) (O.written out.new) result }
+        (O.written out.old) (O.written out.new) (O.faults out.old) (O.faults out.new) result }
     ensures before_input { IsBeforeInput result → KeepsInputAndFaults (D.state deck.old) (D.state deck.new) }
     ensures announced { (D.state deck.new).announced ≡ (D.state deck.old).announced }
     ensures bounded { (D.state deck.new).taken ≤ (D.state deck.old).taken + most_rule_bytes + piece_bytes }

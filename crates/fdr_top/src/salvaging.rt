@@ -1,6 +1,6 @@
 //! The listing of every run of blocks that an image still holds.
 
-ghost use Rattle.std.specs.Prelude.{◌≡◌, ◌≢◌, ◌⊎◌, ◌+◌, ◌≤◌, ℕ, List, [], ◌++◌, All, take, IfSome, OnOk, IsErrOf, IsTrue};
+ghost use Rattle.std.specs.Prelude.{◌≡◌, ◌≢◌, ◌⊎◌, ◌+◌, ◌≤◌, ℕ, List, [], All, take, IfSome, OnOk, IsErrOf, IsTrue};
 ghost use Rattle.fdr_io.specs.Faults.{Rose};
 ghost use Rattle.fdr_io.specs.Told.{followed_by};
 ghost use Rattle.fdr_frame.specs.WordCount.{IsWordCount};
@@ -10,14 +10,14 @@ ghost use Rattle.fdr_recover.specs.Looks.{Looks};
 ghost use Rattle.fdr_resync.specs.Past.{ScannerPast};
 ghost use Rattle.fdr_salvage.specs.declared.salvage.Run.{Run};
 ghost use Rattle.fdr_salvage.specs.Runs.{HasBlockNumbers, run_length};
-ghost use Rattle.fdr_readout.specs.Entries.{Entry};
 ghost use Rattle.fdr_readout.specs.Reading.{ReadsEvents};
 ghost use Rattle.fdr_words.specs.Forms.{IsRingInBounds, salvage_image};
 ghost use Rattle.fdr_top.specs.Stages.{WritesNothing};
 ghost use Rattle.fdr_top.specs.Answers.{IsOwn};
 ghost use Rattle.fdr_top.specs.Commands.{Works};
 ghost use Rattle.fdr_top.specs.Refusals.{IsReadable};
-ghost use Rattle.fdr_top.specs.Salvage.{AreRunsOf, entries_in_run, entries_in_runs, run_text, salvage_text, SalvagesImage};
+ghost use Rattle.fdr_top.specs.Salvage.{AreRunsOf, entries_in_run, entries_in_runs, run_text, salvage_text, SalvagesImage, SalvagesRead};
+ghost use Rattle.fdr_top.specs.Salvage.{TakesFirstOfRun, TakesFirstRuns};
 
 use crate::listing::ImageReader;
 use crate::outcome::Outcome;
@@ -67,9 +67,8 @@ fn take_run<D: Deck, O: Sink, T: Taker<O>>(
     ensures part { IsTrue D.tells.bytes → IsErrOf result BlocksFault.Taker
         → T.failed_in blocks.old.table.now blocks.old.taker out.old out.new
         (entries_in_run blocks.old.table.now header.now (D.state deck.old).held run.now) }
-    ensures front { IsTrue D.tells.bytes → IsErrOf result BlocksFault.Disk → (entries rest : List Entry)
-        × T.took blocks.old.table.now blocks.old.taker out.old blocks.new.taker out.new entries
-        × (entries_in_run blocks.old.table.now header.now (D.state deck.old).held run.now ≡ entries ++ rest) }
+    ensures front { IsTrue D.tells.bytes → IsErrOf result BlocksFault.Disk → TakesFirstOfRun T.took blocks.old.table.now header.now
+        (D.state deck.old).held run.now blocks.old.taker out.old blocks.new.taker out.new }
     ensures reads { OnOk result ((past : ScannerPast) × ReadsEvents blocks.old.table.now blocks.new.events past) }
     ensures table { OnOk result (blocks.new.table ≡ blocks.old.table) }
     ensures version { OnOk result (blocks.new.version ≡ blocks.old.version) }
@@ -77,7 +76,7 @@ fn take_run<D: Deck, O: Sink, T: Taker<O>>(
     ensures disk_unfailed { (IsErrOf result BlocksFault.Disk → ⊥)
         → (D.state deck.new).disk_faults ≡ (D.state deck.old).disk_faults }
     ensures write_fault { IsErrOf result BlocksFault.Taker → Rose (O.faults out.old) (O.faults out.new) }
-    ensures no_fault { OnOk result (O.faults out.new ≡ O.faults out.old) }
+    ensures write_unfailed { (IsErrOf result BlocksFault.Taker → ⊥) → O.faults out.new ≡ O.faults out.old }
     ensures looks { Looks D.tells (D.state deck.old) (D.state deck.new) }
 {
     blocks.events.restart();
@@ -107,14 +106,13 @@ fn take_runs<D: Deck, O: Sink, T: Taker<O>>(
     ensures part { IsTrue D.tells.bytes → IsErrOf result BlocksFault.Taker
         → T.failed_in blocks.old.table.now blocks.old.taker out.old out.new
         (entries_in_runs blocks.old.table.now header.now (D.state deck.old).held runs.now) }
-    ensures front { IsTrue D.tells.bytes → IsErrOf result BlocksFault.Disk → (entries rest : List Entry)
-        × T.took blocks.old.table.now blocks.old.taker out.old blocks.new.taker out.new entries
-        × (entries_in_runs blocks.old.table.now header.now (D.state deck.old).held runs.now ≡ entries ++ rest) }
+    ensures front { IsTrue D.tells.bytes → IsErrOf result BlocksFault.Disk → TakesFirstRuns T.took
+        blocks.old.table.now header.now (D.state deck.old).held runs.now blocks.old.taker out.old blocks.new.taker out.new }
     ensures disk_fault { IsErrOf result BlocksFault.Disk → Rose (D.state deck.old).disk_faults (D.state deck.new).disk_faults }
     ensures disk_unfailed { (IsErrOf result BlocksFault.Disk → ⊥)
         → (D.state deck.new).disk_faults ≡ (D.state deck.old).disk_faults }
     ensures write_fault { IsErrOf result BlocksFault.Taker → Rose (O.faults out.old) (O.faults out.new) }
-    ensures no_fault { OnOk result (O.faults out.new ≡ O.faults out.old) }
+    ensures write_unfailed { (IsErrOf result BlocksFault.Taker → ⊥) → O.faults out.new ≡ O.faults out.old }
     ensures looks { Looks D.tells (D.state deck.old) (D.state deck.new) }
 {
     for run in runs {
@@ -144,6 +142,9 @@ fn list_runs<D: Deck, O: Sink>(
     ensures part { IsTrue D.tells.bytes → AreRunsOf header.now (D.state deck.old).held runs.now
         → (k : ℕ) × (O.written out.new ≡ followed_by (O.written out.old)
         (take k (salvage_text blocks.old.table.now header.now (D.state deck.old).held))) }
+    ensures drained { result ≡ Outcome.DiskFault → IsTrue D.tells.bytes → (Rose (O.faults out.old) (O.faults out.new) → ⊥)
+        → AreRunsOf header.now (D.state deck.old).held runs.now
+        → SalvagesRead blocks.old.table.now header.now (D.state deck.old).held (O.written out.old) (O.written out.new) }
     ensures looks { Looks D.tells (D.state deck.old) (D.state deck.new) }
     ensures disk_fault { result ≡ Outcome.DiskFault → Rose (D.state deck.old).disk_faults (D.state deck.new).disk_faults }
     ensures write_fault { result ≡ Outcome.WriteFault → Rose (O.faults out.old) (O.faults out.new) }
@@ -182,6 +183,9 @@ fn list_found<D: Deck, O: Sink>(
         → O.written out.new ≡ followed_by (O.written out.old) (salvage_text blocks.old.table.now header.now (D.state deck.old).held) }
     ensures part { IsTrue D.tells.bytes → (k : ℕ) × (O.written out.new ≡ followed_by (O.written out.old)
         (take k (salvage_text blocks.old.table.now header.now (D.state deck.old).held))) }
+    ensures drained { result ≡ Outcome.DiskFault → IsTrue D.tells.bytes → (Rose (O.faults out.old) (O.faults out.new) → ⊥)
+        → (O.written out.new ≡ O.written out.old)
+        ⊎ SalvagesRead blocks.old.table.now header.now (D.state deck.old).held (O.written out.old) (O.written out.new) }
     ensures looks { Looks D.tells (D.state deck.old) (D.state deck.new) }
     ensures disk_fault { result ≡ Outcome.DiskFault → Rose (D.state deck.old).disk_faults (D.state deck.new).disk_faults }
     ensures write_fault { result ≡ Outcome.WriteFault → Rose (O.faults out.old) (O.faults out.new) }
@@ -209,7 +213,7 @@ fn salvage_image<D: Deck, O: Sink>(
     requires ring { IfSome ring (λ r. IsRingInBounds r.0 r.1) }
     ensures answer { (path image : List ℕ) → (result ≡ Outcome.NoMemory) ⊎ IsOwn (salvage_image path image ring) result }
     ensures salvages { SalvagesImage sound.now ring D.tells (D.state deck.old) (D.state deck.new)
-        (O.written out.old) (O.written out.new) result }
+        (O.written out.old) (O.written out.new) (O.faults out.old) (O.faults out.new) result }
     ensures disk_fault { result ≡ Outcome.DiskFault → Rose (D.state deck.old).disk_faults (D.state deck.new).disk_faults }
     ensures write_fault { result ≡ Outcome.WriteFault → Rose (O.faults out.old) (O.faults out.new) }
     ensures no_disk_fault { result ≢ Outcome.DiskFault → (D.state deck.new).disk_faults ≡ (D.state deck.old).disk_faults }

@@ -39,7 +39,7 @@ returns-clause-works g c = λ path image.
         disk = λ other. c.list_exceedances.ensures.no_disk_fault other;
       };
       does = lists;
-      complete = λ whole faultless. exceed_done path image _ _ _ _ _ _ _ answer lists whole.0 whole.1 whole.2 whole.3
+      complete = λ whole faultless. exceed_done path image _ _ _ _ _ _ _ _ _ answer lists whole.0 whole.1 whole.2 whole.3
           (λ e. faultless.input tt (c.list_exceedances.ensures.input_fault e)) (λ e. faultless.disk tt (c.list_exceedances.ensures.disk_fault e))
           (λ e. faultless.sink tt (c.list_exceedances.ensures.write_fault e));
     }

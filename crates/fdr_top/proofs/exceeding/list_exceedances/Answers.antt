@@ -17,7 +17,7 @@ use Rattle.fdr_top.proofs.exceeding.list_exceedances.Goals as goal
 pub returns-in-Err : goal.returns-in-Err
 returns-in-Err g c = record {
   answer = λ path image. opening_own path image c.in-Err.answer c.in-Err.ensures.shut;
-  lists = unopened c.args.sound.now _ _ _ _ c.in-Err.answer c.open_image.ensures.looks c.in-Err.ensures.shut c.in-Err.ensures.refused;
+  lists = unopened c.args.sound.now _ _ _ _ _ _ c.in-Err.answer c.requires c.open_image.ensures.looks c.in-Err.ensures.shut c.in-Err.ensures.refused;
   before_input = λ before. passes_keeps _ _ _ c.open_image.ensures.looks.disk_work.passes;
   announced = c.open_image.ensures.looks.disk_work.passes.announced.announced;
   bounded = kept_bounded _ _ _ _ c.open_image.ensures.looks.disk_work.passes.input.taken;
@@ -40,7 +40,7 @@ returns-in-Err-pull_rules g c = record {
   lists =
       let opened = c.in-Ok.ensures.opened in
       let refused = rw c.table.ensures at c.in-Err-pull_rules.ensures.refused in
-      rules_refused c.args.sound.now _ _ _ _ _ refused.0 c.in-Err-pull_rules.answer c.open_image.ensures.looks
+      rules_refused c.args.sound.now _ _ _ _ _ _ _ refused.0 c.in-Err-pull_rules.answer c.open_image.ensures.looks
       (long_image c.in-Ok.reader.header _ opened.whole) opened.image
       c.pull_rules.ensures.disk c.pull_rules.ensures.stops refused.1;
   before_input = λ before.
@@ -67,7 +67,7 @@ returns-in_default g c = record {
   answer = λ path image. inl refl;
   lists =
       let read = rw c.table.ensures at c.in-Ok-pull_rules.ensures.rules in
-      no_room_to_watch c.args.sound.now _ _ _ _ _ read.0 c.open_image.ensures.looks c.pull_rules.ensures.disk c.pull_rules.ensures.stops read.2;
+      no_room_to_watch c.args.sound.now _ _ _ _ _ _ _ read.0 c.open_image.ensures.looks c.pull_rules.ensures.disk c.pull_rules.ensures.stops read.2;
   before_input = λ before. absurd before;
   announced = c.pull_rules.ensures.announced ∙ c.open_image.ensures.looks.disk_work.passes.announced.announced;
   bounded = bounded_between _ _ _ _ _ _ c.open_image.ensures.looks.disk_work.passes.input.taken c.pull_rules.ensures.bounded refl;
@@ -91,10 +91,10 @@ returns g c = record {
   lists =
       let opened = c.in-Ok.ensures.opened in
       let read = rw c.table.ensures at c.in-Ok-pull_rules.ensures.rules in
-      blocks_exceeded c.args.sound.now _ _ _ _ _ c.in-Ok.reader.header _ _ _ read.0 _ c.open_image.ensures.looks c.pull_rules.ensures.disk
+      blocks_exceeded c.args.sound.now _ _ _ _ _ c.in-Ok.reader.header _ _ _ _ _ read.0 _ c.open_image.ensures.looks c.pull_rules.ensures.disk
       c.pull_rules.ensures.stops c.write_exceedances.ensures.looks opened.header opened.image opened.whole read.2 (c.in-Ok-watching.ensures.rules ∙ read.1)
       c.write_exceedances.ensures.answer (rw c.table-2.ensures at c.write_exceedances.ensures.text)
-      (rw c.table-2.ensures at c.write_exceedances.ensures.part);
+      (rw c.table-2.ensures at c.write_exceedances.ensures.part) (rw c.table-2.ensures at c.write_exceedances.ensures.drained);
   before_input = λ before.
       absurd (of_blocks (λ (a : Outcome). IsBeforeInput a → ⊥) c.write_exceedances.result (λ none. none) (λ none. none) (λ none. none)
       c.write_exceedances.ensures.answer before);

@@ -3,13 +3,13 @@ use Rattle.std.specs.Prelude.{IsTrue}
 use Rattle.fdr_recover.specs.Images.{recovered_run}
 use Rattle.fdr_io.specs.Told.{followed_by}
 use Rattle.fdr_io.proofs.OutputSteps.{whole_is_part}
-use Rattle.fdr_top.specs.Exceed.{exceedances_of_blocks}
-use Rattle.fdr_top.specs.Exceeding.{TakesEntries, steps_of_entries}
+use Rattle.fdr_top.specs.Exceed.{exceedances_of_blocks, steps_of_entries}
+use Rattle.fdr_top.specs.Exceeding.{TakesEntries}
 use Rattle.fdr_top.specs.Sessions.{entries_of_blocks}
 use Rattle.fdr_top.specs.SessionsTaken.{decided_of_blocks}
-use Rattle.fdr_top.proofs.Exceeds.{all_written, blocks_failed_part, end_failed, first_part, gave}
+use Rattle.fdr_top.proofs.Exceeds.{all_written, blocks_failed_part, end_failed, first_part, first_read, gave}
 use Rattle.fdr_top.proofs.RunSizes.{run_short}
-use Rattle.fdr_top.proofs.Results.{disk_not_done, disk_not_write, done_not_disk, done_not_write, ok_not_err, rose_after, taker_not_disk}
+use Rattle.fdr_top.proofs.Results.{disk_not_done, disk_not_taker, disk_not_write, done_not_disk, done_not_write, ok_not_err, rose_after, taker_not_disk}
 use Rattle.fdr_top.proofs.Results.{write_not_disk, write_not_done}
 use Rattle.fdr_top.proofs.exceeding.write_exceedances.Given.{Over}
 use Rattle.fdr_top.proofs.exceeding.write_exceedances.Goals.{In-Ok-finish}
@@ -39,6 +39,7 @@ pub returns-in-Ok-finish : goal.returns-in-Ok-finish
 returns-in-Ok-finish g c = record {
   answer = inl refl;
   text = λ done told. written g (goal.at.returns-in-Ok-finish g c).In-Ok-finish told;
+  drained = λ e. absurd (done_not_disk e);
   part = λ told. whole_is_part _ _ _ (written g (goal.at.returns-in-Ok-finish g c).In-Ok-finish told);
   looks = c.take_blocks.ensures.looks;
   disk_fault = λ e. absurd (done_not_disk e);
@@ -52,6 +53,7 @@ pub returns-in-Err : goal.returns-in-Err
 returns-in-Err g c = record {
   answer = inr (inl refl);
   text = λ done told. absurd (write_not_done done);
+  drained = λ e. absurd (write_not_disk e);
   part = λ told.
       let t = c.args.blocks.now.table.now in
       let version = c.args.header.now.version in
@@ -86,6 +88,16 @@ returns-in-Err-Disk g c = record {
       first_part (g.O.Sink.written c.args.out.now) c.args.blocks.now.taker t version run c.requires.empty c.requires.no_rows c.requires.watching
       c.requires.sound short (g.O.Sink.written c.take_blocks.new.out) _ c.take_blocks.new.blocks.taker
       (decided_of_blocks t version front.read) front.later c.flush.result front.taken front.ahead c.flush.ensures.all c.flush.ensures.part;
+  drained = λ fails told none.
+      let t = c.args.blocks.now.table.now in
+      let version = c.args.header.now.version in
+      let run = recovered_run c.args.header.now (g.D.Deck.state c.args.deck.now).held in
+      let short = run_short c.args.header.now (g.D.Deck.state c.args.deck.now).held c.requires.limits in
+      let front = rw c.requires.version at (c.in-Err-Disk.ensures.front told (ap Err c.in-Err-Disk.field-0-is)) in
+      first_read (g.O.Sink.written c.args.out.now) c.args.blocks.now.taker t version run c.requires.empty c.requires.no_rows c.requires.watching
+      c.requires.sound short (g.O.Sink.written c.take_blocks.new.out) _ c.take_blocks.new.blocks.taker front.read front.unread front.later _ _ _
+      c.flush.result front.parted front.taken front.ahead (c.in-Err-Disk.ensures.write_unfailed (disk_not_taker _ c.in-Err-Disk.field-0-is))
+      c.flush.ensures.all c.flush.ensures.cause none;
   looks = c.take_blocks.ensures.looks;
   disk_fault = λ e. c.in-Err-Disk.ensures.disk_fault (ap Err c.in-Err-Disk.field-0-is);
   write_fault = λ e. absurd (disk_not_write e);
@@ -98,6 +110,7 @@ pub returns-in-Err-Taker : goal.returns-in-Err-Taker
 returns-in-Err-Taker g c = record {
   answer = inr (inl refl);
   text = λ done told. absurd (write_not_done done);
+  drained = λ e. absurd (write_not_disk e);
   part = λ told.
       let t = c.args.blocks.now.table.now in
       let version = c.args.header.now.version in

@@ -26,6 +26,11 @@ returns g c = record {
       let are : AreRunsOf c.args.header.now (g.D.Deck.state c.runs.new.deck).held c.deref.result.now =
       rw (held, c.deref.ensures.value) (record { numbers = c.in-Ok.ensures.runs told; blocks = c.in-Ok.ensures.blocks told }) in
       rw held at (c.list_runs.ensures.part told are);
+  drained = λ fails told none.
+      let held = c.runs.ensures.looks.disk.held in
+      let are : AreRunsOf c.args.header.now (g.D.Deck.state c.runs.new.deck).held c.deref.result.now =
+      rw (held, c.deref.ensures.value) (record { numbers = c.in-Ok.ensures.runs told; blocks = c.in-Ok.ensures.blocks told }) in
+      inr (rw held at (c.list_runs.ensures.drained fails told none are));
   looks = Looks-then _ _ _ _ (g.met.D.Deck.sound c.args.deck.now) c.runs.ensures.looks c.list_runs.ensures.looks;
   disk_fault = λ fails. rose_later _ _ _ c.runs.ensures.looks.disk_work.passes.disk_faults (c.list_runs.ensures.disk_fault fails);
   write_fault = c.list_runs.ensures.write_fault;
@@ -39,6 +44,7 @@ pub returns-in-Err-DiskFault : goal.returns-in-Err-DiskFault
 returns-in-Err-DiskFault g c = record {
   answer = inr (inr (inr refl));
   text = λ done told. absurd (disk_not_done done);
+  drained = λ fails told none. inl refl;
   part = λ told. (0, sym (followed_by-nil (g.O.Sink.written c.args.out.now)));
   looks = c.runs.ensures.looks;
   disk_fault = λ e. c.in-Err-DiskFault.ensures.disk_fault (ap Err c.in-Err-DiskFault.field-0-is);
@@ -53,6 +59,7 @@ pub returns-in-Err-NoMemory : goal.returns-in-Err-NoMemory
 returns-in-Err-NoMemory g c = record {
   answer = inl refl;
   text = λ done told. absurd (memory_not_done done);
+  drained = λ fails. absurd (memory_not_disk fails);
   part = λ told. (0, sym (followed_by-nil (g.O.Sink.written c.args.out.now)));
   looks = c.runs.ensures.looks;
   disk_fault = λ e. absurd (memory_not_disk e);

@@ -25,7 +25,7 @@ returns-clause-works g c = λ path image.
         disk = λ other. c.salvage_image.ensures.no_disk_fault other;
       };
       does = c.salvage_image.ensures.salvages;
-      complete = λ whole faultless. salvage_done path image c.args.ring _ _ _ _ _ _ _ answer (g.met.D.Deck.sound c.args.deck.now)
+      complete = λ whole faultless. salvage_done path image c.args.ring _ _ _ _ _ _ _ _ _ answer (g.met.D.Deck.sound c.args.deck.now)
           c.salvage_image.ensures.salvages whole.0 whole.1
           (λ e. faultless.disk tt (c.salvage_image.ensures.disk_fault e)) (λ e. faultless.sink tt (c.salvage_image.ensures.write_fault e));
     }

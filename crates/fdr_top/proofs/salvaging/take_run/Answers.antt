@@ -4,7 +4,6 @@ use Rattle.fdr_recover.proofs.Looking.{Looks-here}
 use Rattle.fdr_readout.specs.Entries.{LineEntry}
 use Rattle.fdr_salvage.specs.Runs.{run_length}
 use Rattle.fdr_top.specs.Salvage.{run_text}
-use Rattle.fdr_top.specs.SessionsTaken.{decided_of_blocks}
 use Rattle.fdr_top.proofs.salvaging.take_run.Goals as goal
 
 pub run_line-requires : goal.run_line-requires
@@ -28,12 +27,15 @@ pub returns-in-Ok-clause-front : goal.returns-in-Ok-clause-front
 returns-in-Ok-clause-front g c = λ told fails.
     let line = rw c.run_line.ensures at (c.in-Ok.ensures.all c.args.blocks.now.table.now) in
     let front = rw c.requires.version at (c.take_between.ensures.front told fails) in
-    let first = LineEntry (run_text c.args.run.now.first (run_length c.args.run.now)) in (
-      first ∷ decided_of_blocks c.args.blocks.now.table.now c.args.header.now.version front.read,
-      front.later,
-      g.met.T.Taker.laws.then _ _ _ _ _ _ _ _ _ line front.taken,
-      ap (λ entries. first ∷ entries) front.ahead,
-    )
+    let first = LineEntry (run_text c.args.run.now.first (run_length c.args.run.now)) in
+    record {
+      read = front.read;
+      unread = front.unread;
+      parted = front.parted;
+      taken = g.met.T.Taker.laws.then _ _ _ _ _ _ _ _ _ line front.taken;
+      later = front.later;
+      ahead = ap (λ entries. first ∷ entries) front.ahead;
+    }
 
 pub returns-in-Err-clause-part : goal.returns-in-Err-clause-part
 returns-in-Err-clause-part g c = λ told fails.

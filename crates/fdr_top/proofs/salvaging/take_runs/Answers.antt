@@ -1,13 +1,14 @@
-use Rattle.std.proofs.Common.{◌≡◌, ℕ, ◌++◌, ◌+◌, List, append_assoc, get_or, take, drop, Result, Err, Some, refl, sym, ap, ◌∙◌, arith}
+use Rattle.std.proofs.Common.{◌≡◌, ℕ, ◌++◌, ◌+◌, List, append_assoc, get_or, take, drop, suc, Result, Err, Some, refl, sym, ap, ◌∙◌, arith}
 use Rattle.std.specs.List.{flat_map, slice_get}
-use Rattle.std.proofs.lemmas.List.{take_all}
+use Rattle.std.proofs.Math.Seq.{drop-cons}
+use Rattle.std.proofs.lemmas.List.{take-append-drop, take_all}
 use Rattle.std.proofs.lemmas.Option.{slice_get-get_or}
 use Rattle.std.proofs.lemmas.Result.{err_from_is_err_and}
 use Rattle.fdr_recover.proofs.Looking.{Looks-here, Looks-then}
 use Rattle.fdr_recover.specs.declared.walk.BlocksFault.{BlocksFault}
 use Rattle.fdr_salvage.specs.declared.salvage.Run.{Run}
 use Rattle.fdr_readout.proofs.EntryLemmas.{flat_map_next, flat_map_around}
-use Rattle.fdr_top.specs.Salvage.{entries_in_run}
+use Rattle.fdr_top.specs.Salvage.{decided_in_run, entries_in_run}
 use Rattle.fdr_top.proofs.salvaging.take_runs.Goals as goal
 
 -- the fault that is handed on
@@ -57,7 +58,7 @@ loop-run-preserved g c =
     record {
       looks = Looks-then _ _ _ _ (g.met.D.Deck.sound c.args.deck.now) inv.looks c.take_run.ensures.looks;
       no_disk_fault = c.in_ok-take_run.ensures.disk_unfailed (λ e. absurd (cc)) ∙ inv.no_disk_fault;
-      no_fault = c.in_ok-take_run.ensures.no_fault ∙ inv.no_fault;
+      no_fault = c.in_ok-take_run.ensures.write_unfailed (λ e. absurd (cc)) ∙ inv.no_fault;
       reads = rw c.in_ok-take_run.ensures.table c.in_ok-take_run.ensures.reads;
       table = c.in_ok-take_run.ensures.table ∙ inv.table;
       version = c.in_ok-take_run.ensures.version ∙ inv.version;
@@ -89,13 +90,22 @@ returns-in_err-take_run-clause-front g c = λ told fails.
     let p = err_from_is_err_and c.from_residual.result c.from_residual.ensures.1 in
     let front = rw (inv.table, inv.looks.disk.held) at (c.in_err-take_run.ensures.front told (same_fault _ _ _ _ p.1 p.2 fails)) in
     let before = flat_map f (take i runs) in
-    let after = flat_map f (drop (i + 1) runs) in (
-      before ++ front.0,
-      front.1 ++ after,
-      g.met.T.Taker.laws.then _ _ _ _ _ _ _ _ _ (inv.taken told) front.2,
-      flat_map_around f runs i (run_at runs i) is ∙ ap (λ entries. (before ++ entries) ++ after) front.3
-          ∙ regrouped before front.0 front.1 after,
-    )
+    let after = flat_map f (drop (i + 1) runs) in
+    let decided = decided_in_run c.args.blocks.now.table.now c.args.header.now (run_at runs i) front.read in
+    record {
+      earlier = take i runs;
+      run = run_at runs i;
+      others = drop (suc i) runs;
+      in_order = sym (take-append-drop i runs)
+          ∙ ap (λ rest. take i runs ++ rest) (drop-cons runs i (record { first = 0; next = 0 }) c.loop-run-test.true);
+      read = front.read;
+      unread = front.unread;
+      parted = front.parted;
+      taken = g.met.T.Taker.laws.then _ _ _ _ _ _ _ _ _ (inv.taken told) front.taken;
+      later = front.later ++ after;
+      ahead = flat_map_around f runs i (run_at runs i) is ∙ ap (λ entries. (before ++ entries) ++ after) front.ahead
+          ∙ regrouped before decided front.later after;
+    }
 
 pub returns-in_err-take_run-clause-looks : goal.returns-in_err-take_run-clause-looks
 returns-in_err-take_run-clause-looks g c =

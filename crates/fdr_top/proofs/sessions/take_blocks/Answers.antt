@@ -1,4 +1,4 @@
-use Rattle.std.proofs.Common.{◌≡◌, [], refl}
+use Rattle.std.proofs.Common.{◌≡◌}
 use Rattle.std.specs.Prelude.{IsTrue}
 use Rattle.fdr_recover.specs.Images.{blocks_between, recovered_run}
 use Rattle.fdr_recover.proofs.Between.{between_run}

@@ -1,7 +1,8 @@
 use Rattle.std.proofs.Common.{Bool, List, ◌∷◌, [], ap, sym, refl, ◌∙◌, subst, add-zero}
 use Rattle.fdr_exceed.specs.Exceedances.{WatchStep}
 use Rattle.fdr_readout.specs.Entries.{FrameEntry}
-use Rattle.fdr_top.specs.Exceeding.{FailsInSteps, GivesSteps, HasTakenLines, steps_of_entries}
+use Rattle.fdr_top.specs.Exceed.{steps_of_entries}
+use Rattle.fdr_top.specs.Exceeding.{FailsInSteps, GivesSteps, HasTakenLines}
 use Rattle.fdr_top.specs.ExceedSound.{takes_nothing}
 use Rattle.fdr_top.proofs.Coding.{on_err, on_ok}
 use Rattle.fdr_top.proofs.WatchLines.{each_err, each_ok, entries_given}
