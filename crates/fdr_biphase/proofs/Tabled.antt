@@ -3,7 +3,12 @@ use Rattle.std.proofs.Common.{◌≡◌, ℕ, ◌-◌, ◌/◌, ◌%◌, ◌^◌
 use Rattle.std.specs.Bool.{beq}
 use Rattle.fdr_biphase.specs.declared.encoder.TheConstants.{CELLS}
 use Rattle.fdr_biphase.specs.Cells.{cells_of, level_after}
-use Rattle.fdr_biphase.specs.Packed.{packed_bits, low_bits}
+use Rattle.std.proofs.Common.{ap, ◌+◌, ◌*◌, ◌∙◌, arith, ltb}
+use Rattle.std.proofs.Math.Facts.{ltb_yes}
+use Rattle.std.specs.Prelude.{not, bit_and, bit_xor}
+use Rattle.std.specs.Int.Bits.{xor_zero_r, xor_add_and}
+use Rattle.std.proofs.lemmas.Nat.{and_mask}
+use Rattle.fdr_biphase.specs.Packed.{packed_bits, low_bits, turn_of}
 use Rattle.fdr_biphase.proofs.Bounded.{test_below, each_below}
 use lib.Ieee.Fits.{and_l, and_r}
 
@@ -47,3 +52,18 @@ parts level b word h = record {
 
 pub each_byte : (level : Bool) (b : ℕ) → b < 256 → ArePackedCells level b (cells_after level b) (eqb (cells_after level b / 2 ^ 15) 1)
 each_byte level b low = parts level b (cells_after level b) (each_below (λ b. has_cells level b (cells_after level b)) 256 (tested level) b low)
+
+-- a word whose levels are turned where the level before them is high
+pub turned_cells : (level : Bool) (b turn : ℕ) → b < 256 → turn ≡ turn_of level → bit_xor (get_or CELLS b 0) turn ≡ cells_after level b
+turned_cells false b turn small is = ap (bit_xor (get_or CELLS b 0)) is ∙ xor_zero_r (get_or CELLS b 0)
+turned_cells true b turn small is =
+    let low = get_or CELLS b 0 in
+    let within : low < 65536 = ltb_yes (each_below (λ b. ltb (get_or CELLS b 0) 65536) 256 tt b small) in
+    let same : bit_and low 65535 ≡ low % 65536 = and_mask low 16 in
+    let sum : bit_xor low 65535 + bit_and low 65535 * 2 ≡ low + 65535 = xor_add_and low 65535 in
+    ap (bit_xor low) is ∙ (let e : bit_xor low 65535 ≡ 65535 - low = omega (arith, within, same, sum) in e)
+
+-- the level of a turn
+pub level_of_turn : (level : Bool) (turn : ℕ) → turn ≡ turn_of level → not (eqb turn 0) ≡ level
+level_of_turn false turn is = ap (λ n. not (eqb n 0)) is
+level_of_turn true turn is = ap (λ n. not (eqb n 0)) is

@@ -30,6 +30,10 @@ encoded_bytes first bytes = bytes_of_bits (cells_of first (bits_of_bytes bytes))
 abbrev pub decoded_bytes : List ℕ → List ℕ
 decoded_bytes levels = bytes_of_bits (cell_bits (bits_of_bytes levels))
 
+-- what turns each level of a word after a level: only ones after a high level, and else only zeros
+abbrev pub turn_of : Bool → ℕ
+turn_of level = if level then 65535 else 0
+
 -- the byte that an answer of a packer gives, as a list: of one byte, or empty where it gives none
 abbrev pub answered_byte : Option ℕ → List ℕ
 answered_byte None = []

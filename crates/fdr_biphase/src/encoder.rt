@@ -1,8 +1,8 @@
 //! The encoder.
 
 ghost use Rattle.std.specs.Prelude.{◌≡◌, ◌≤◌, ◌*◌, ◌++◌, ◌∷◌, [], ℕ, Bool, List, length, take};
-ghost use Rattle.fdr_biphase.specs.Cells.{bits_of_bytes, cells_of};
-ghost use Rattle.fdr_biphase.specs.Packed.{encoded_bytes};
+ghost use Rattle.fdr_biphase.specs.Cells.{bits_of_bytes, cells_of, level_after};
+ghost use Rattle.fdr_biphase.specs.Packed.{encoded_bytes, turn_of};
 ghost use Rattle.fdr_biphase.specs.Past.{RepresentsEncoder};
 
 // The cells of the bits of each byte after a low level, packed. After a high level each of their levels is turned.
@@ -63,6 +63,7 @@ impl Encoder {
     }
 
     /// Puts the cells of the next bytes at the front of `room`: two bytes for each.
+    #[inline(never)]
     pub fn bytes(&mut self, bytes: &[u8], room: &mut [u8])
         requires { 2 * length bytes.now ≤ length room.old }
         ensures packed { (first : Bool) (before : List ℕ) → RepresentsEncoder self.old first before
@@ -71,10 +72,33 @@ impl Encoder {
             → RepresentsEncoder self.new first (before ++ bytes.now) }
         ensures length { length room.new ≡ length room.old }
     {
+        let mut turn = turn_after(self.level);
         for i in 0..bytes.len() {
-            let cells = self.byte(bytes[i]);
-            room[2 * i] = cells[0];
-            room[2 * i + 1] = cells[1];
+            let next = turned(turn, bytes[i]);
+            room[2 * i] = next.0[0];
+            room[2 * i + 1] = next.0[1];
+            turn = next.1;
         }
+        self.level = turn != 0;
     }
+}
+
+/// What turns each level of a word after this level: only ones after a high level, and else only zeros.
+#[inline(always)]
+fn turn_after(level: bool) -> u16
+    ensures { result ≡ turn_of level }
+{
+    if level { 0xffff } else { 0 }
+}
+
+/// The cells of a byte after the level of this turn, and the turn after them.
+#[inline(always)]
+fn turned(turn: u16, b: u8) -> ([u8; 2], u16)
+    ensures packed { (first : Bool) (bytes : List ℕ) → turn ≡ turn_of (level_after first (bits_of_bytes bytes))
+        → encoded_bytes first (bytes ++ b ∷ []) ≡ encoded_bytes first bytes ++ result.0 }
+    ensures stands { (first : Bool) (bytes : List ℕ) → turn ≡ turn_of (level_after first (bits_of_bytes bytes))
+        → result.1 ≡ turn_of (level_after first (bits_of_bytes (bytes ++ b ∷ []))) }
+{
+    let cells = CELLS[usize::from(b)] ^ turn;
+    (cells.to_le_bytes(), turn_after(cells >> 15 == 1))
 }
