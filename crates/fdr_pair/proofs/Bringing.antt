@@ -3,6 +3,7 @@ use Rattle.std.proofs.Common.{◌≡◌, ◌≢◌, ⊎_elim, ℕ, ◌+◌, ◌-
 use Rattle.std.proofs.Common.{Option, Some, None}
 use Rattle.std.specs.List.{cons_option}
 use Rattle.std.proofs.lemmas.Bool.{cases_lt}
+use Rattle.std.proofs.lemmas.List.{append-nil}
 use Rattle.std.specs.Prelude.{◌↔◌, IsTrue}
 use Rattle.fdr_io.specs.Faults.{Rose}
 use Rattle.fdr_deck.specs.State.{Tells}
@@ -370,3 +371,20 @@ behind_still tells lead r s blocks k end start p q brought at high same told =
     ∙ ap (λ (h : Header). next_of h (disk_on (other_side lead) p).held) (sym brought.header)
     ∙ sym (brought.ring.sure.ring.next told) in
     omega (arith, next, at, high)
+
+-- the next block isn't found, once those before it were brought
+pub brought_so_far : (tells : Tells) (lead : Side) (r s t : Ring) (blocks : ℕ → List Block) (n : ℕ) (start p q : Pair)
+    → IsSameContent (disk_on lead start) (disk_on lead p) → HasBrought tells lead r s (blocks n) start p → IsSoundPair tells p
+    → HasBrought tells lead s t [] p q → t.next ≡ n → HasBrought tells lead r t (blocks t.next) start q
+brought_so_far tells lead r s t blocks n start p q same brought sound also number =
+    subst (λ (k : ℕ). HasBrought tells lead r t (blocks k) start q) (sym number)
+    (subst (λ (l : List Block). HasBrought tells lead r t l start q) (append-nil (blocks n))
+    (brought_on tells lead r s (blocks n) [] start p q same brought sound t also))
+
+-- the lead was looked at, and nothing was brought
+pub brought_looked : (tells : Tells) (lead : Side) (r : Ring) (p mid : Pair) → IsSoundPair tells p → IsSettledRing tells (other_side lead) r p
+    → Serves tells lead (disk_on lead p).may_leave p mid → IsSameContent (disk_on lead p) (disk_on lead mid)
+    → (disk_on lead mid).faults ≡ (disk_on lead p).faults → HasBrought tells lead r r [] p mid
+brought_looked tells lead r p mid sound ring served same none =
+    looked_brought tells lead r [] p mid mid sound ring.settled served same r none
+    (brought_none tells lead r [] mid refl (ring_left tells (other_side lead) r p mid served.other.disk ring))

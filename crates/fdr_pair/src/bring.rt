@@ -1,6 +1,6 @@
 //! A side that is brought up to the lead.
 
-ghost use Rattle.std.specs.Prelude.{◌≡◌, ◌+◌, ◌≤◌, ◌<◌, ℕ, Err, None, IfOk, IsTrue};
+ghost use Rattle.std.specs.Prelude.{◌≡◌, ◌+◌, ◌≤◌, ◌<◌, [], Err, None, IfOk, IsTrue};
 ghost use Rattle.fdr_slot.specs.Limits.{sequence_end};
 ghost use Rattle.fdr_slot.specs.Places.{image_size};
 ghost use Rattle.fdr_recover.specs.Images.{next_of, block_numbered, blocks_between};
@@ -8,7 +8,7 @@ ghost use Rattle.fdr_twin.specs.Pair.{disk_on, other_side};
 ghost use Rattle.fdr_pair.specs.SidePuts.{IsSettledRing};
 ghost use Rattle.fdr_pair.specs.PairWork.{IsSameContent, PairWork};
 ghost use Rattle.fdr_pair.specs.Brought.{missing_blocks, IsFarBehind};
-ghost use Rattle.fdr_pair.specs.Bringing.{IsBringing, HasBrought, HasNoFault, HasFailedAlone};
+ghost use Rattle.fdr_pair.specs.Bringing.{IsBringing, HasBrought, HasFailedAlone};
 
 use crate::one_side::put_on;
 use crate::read::block_on;
@@ -17,18 +17,15 @@ use fdr_slot::MAX_PAYLOAD;
 use fdr_twin::{Side, Twin};
 
 /// Why a side wasn't brought up to the lead.
-#[derive(Clone, Copy, PartialEq, Eq, Debug)]
+#[derive(Drop)]
 pub enum BringFault {
     /// The side that follows failed: its count of faults rose in this call.
     FollowerFailed,
     /// The lead failed: its count of faults rose in this call.
     LeadFailed,
-    /// The lead hasn't the block with this number, though it neither failed nor is the other side too far behind. Only a twin that
-    /// doesn't tell its bytes shows that.
-    NotFound {
-        /// The number.
-        seq: u64,
-    },
+    /// The lead hasn't the next block of this ring, in which the blocks before it were brought, though it neither failed nor is the
+    /// other side too far behind. Only a twin that doesn't tell its bytes shows that.
+    NotFound(Ring),
 }
 
 // The other one.
@@ -59,7 +56,8 @@ fn bring_block<T: Twin>(twin: &mut T, lead: Side, ring: Ring, seq: u64) -> Resul
     ensures lead_failed { result ≡ Err BringFault.LeadFailed → HasFailedAlone lead (T.pair twin.old) (T.pair twin.new) }
     ensures unmoved { result ≡ Err BringFault.LeadFailed
         → (disk_on (other_side lead) (T.pair twin.new)).held ≡ (disk_on (other_side lead) (T.pair twin.old)).held }
-    ensures not_found { (n : ℕ) → result ≡ Err (BringFault.NotFound n) → (n ≡ seq) × HasNoFault (T.pair twin.old) (T.pair twin.new)
+    ensures not_found { (r : Ring) → result ≡ Err (BringFault.NotFound r) → (r ≡ ring)
+        × HasBrought T.tells lead ring r [] (T.pair twin.old) (T.pair twin.new)
         × (IsTrue T.tells.bytes → block_numbered ring.header (disk_on lead (T.pair twin.old)).held ring.next ≡ None) }
 {
     let header = ring.header();
@@ -68,7 +66,7 @@ fn bring_block<T: Twin>(twin: &mut T, lead: Side, ring: Ring, seq: u64) -> Resul
         return Err(BringFault::LeadFailed);
     };
     if info.len == 0 {
-        return Err(BringFault::NotFound { seq });
+        return Err(BringFault::NotFound(ring));
     }
     let follower = other_side(lead);
     let Ok(ring) = put_on(twin, follower, ring, info.session, &payload[..info.len]) else {
@@ -100,8 +98,9 @@ pub fn bring_up<T: Twin>(twin: &mut T, lead: Side, ring: Ring, end: u64) -> Resu
     ensures lead_failed { result ≡ Err BringFault.LeadFailed → (ring.next < end) × HasFailedAlone lead (T.pair twin.old) (T.pair twin.new) }
     ensures still_behind { result ≡ Err BringFault.LeadFailed
         → IsTrue T.tells.bytes → next_of ring.header (disk_on (other_side lead) (T.pair twin.new)).held < end }
-    ensures not_found { (seq : ℕ) → result ≡ Err (BringFault.NotFound seq) → (ring.next ≤ seq) × (seq < end)
-        × HasNoFault (T.pair twin.old) (T.pair twin.new) × (IsTrue T.tells.bytes → ⊥) }
+    ensures not_found { (r : Ring) → result ≡ Err (BringFault.NotFound r) → (ring.next ≤ r.next) × (r.next < end)
+        × HasBrought T.tells lead ring r (blocks_between ring.header (disk_on lead (T.pair twin.old)).held ring.next r.next)
+        (T.pair twin.old) (T.pair twin.new) × (IsTrue T.tells.bytes → ⊥) }
 {
     let mut level = ring;
     for seq in level.next()..end {

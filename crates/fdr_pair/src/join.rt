@@ -44,6 +44,13 @@ pub struct Joined {
     pub follower: Follower,
 }
 
+// The answer that names the next block of this ring, which the lead hasn't.
+fn missing_block(ring: &Ring) -> PairOutcome
+    ensures { result ≡ PairOutcome.BlocksDiffer ring.now.next }
+{
+    PairOutcome::BlocksDiffer { seq: ring.next() }
+}
+
 // Puts the lead's blocks from the ring's next number on, below `end`, on the side that follows.
 fn bring<T: Twin>(twin: &mut T, lead: Side, ring: Ring, end: u64) -> Result<Follower, PairOutcome>
     requires ring { IsSettledRing T.tells (other_side lead) ring (T.pair twin.old) }
@@ -70,7 +77,7 @@ fn bring<T: Twin>(twin: &mut T, lead: Side, ring: Ring, end: u64) -> Result<Foll
         Ok(ring) => Ok(Follower::Brought(ring)),
         Err(BringFault::FollowerFailed) => Ok(Follower::Failed),
         Err(BringFault::LeadFailed) => Err(PairOutcome::LeadFault(lead)),
-        Err(BringFault::NotFound { seq }) => Err(PairOutcome::BlocksDiffer { seq }),
+        Err(BringFault::NotFound(ring)) => Err(missing_block(&ring)),
     }
 }
 

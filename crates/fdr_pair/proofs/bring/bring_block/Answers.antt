@@ -6,7 +6,14 @@ use Rattle.fdr_pair.specs.SidePuts.{next_block}
 use Rattle.fdr_ring.specs.Rings.{IsRing}
 use Rattle.fdr_twin.specs.declared.side.Side.{Side}
 use Rattle.fdr_pair.proofs.Going.{ring_left}
-use Rattle.fdr_pair.proofs.Bringing.{brings_looked, block_of_read, lead_kept, put_work, put_brought}
+use Rattle.std.proofs.Common.{Err, Result, ap, ◌∙◌}
+use Rattle.fdr_slot.specs.declared.image.Header.{Header}
+use Rattle.fdr_recover.specs.Images.{block_numbered}
+use Rattle.fdr_ring.specs.declared.ring.Ring.{Ring}
+use Rattle.fdr_pair.specs.Bringing.{HasBrought}
+use Rattle.fdr_pair.specs.declared.bring.BringFault.{BringFault}
+use Rattle.fdr_pair.specs.declared.bring.BringFault.TheVariants.{NotFound}
+use Rattle.fdr_pair.proofs.Bringing.{brought_looked, brings_looked, block_of_read, lead_kept, put_work, put_brought}
 use Rattle.fdr_pair.proofs.bring.bring_block.Given.{Over}
 use Rattle.fdr_pair.proofs.bring.bring_block.Goals.{After-put_on}
 use Rattle.fdr_pair.proofs.bring.bring_block.Goals as goal
@@ -71,3 +78,21 @@ returns-clause-brought g c =
 
 pub returns-in_default-put_on-clause-follower_failed : goal.returns-in_default-put_on-clause-follower_failed
 returns-in_default-put_on-clause-follower_failed c = search rules
+
+same_ring : (r s : Ring) → ◌≡◌ {A = Result Ring BringFault} (Err (NotFound r)) (Err (NotFound s)) → s ≡ r
+same_ring r s e = cc
+
+pub returns-then-info-eq0-clause-not_found : goal.returns-then-info-eq0-clause-not_found
+returns-then-info-eq0-clause-not_found g c r fails =
+    let p = g.T.Twin.pair c.args.twin.now in
+    let q = g.T.Twin.pair c.block_on.new.twin in
+    let same : r ≡ c.args.ring = same_ring c.args.ring r fails in (
+      same,
+      subst (λ (x : Ring). HasBrought g.T.Deck.tells c.args.lead c.args.ring x [] p q) (sym same)
+          (brought_looked _ _ _ _ _ (g.met.T.Twin.sound_pair c.args.twin.now) c.requires.ring c.block_on.ensures.serves c.block_on.ensures.content
+          c.in-Ok.ensures.no_fault),
+      λ told.
+          ap (block_numbered c.args.ring.header (disk_on c.args.lead p).held) (sym c.requires.number)
+          ∙ ap (λ (h : Header). block_numbered h (disk_on c.args.lead p).held c.args.seq) (sym c.header-header.ensures.header)
+          ∙ (c.in-Ok.ensures.none told).0 c.if-info-eq0.true,
+    )

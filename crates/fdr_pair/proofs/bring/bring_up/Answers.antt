@@ -2,11 +2,13 @@ use Rattle.std.proofs.Common.{◌≡◌, Result, Err, sym, ◌∙◌, ap, arith}
 use Rattle.std.proofs.lemmas.Grind.{elements}
 use Rattle.std.proofs.lemmas.Result.{err_from_is_err_and}
 use Rattle.fdr_ring.specs.declared.ring.Ring.{Ring}
+use Rattle.fdr_recover.specs.Images.{blocks_between}
+use Rattle.fdr_twin.specs.Pair.{disk_on}
 use Rattle.fdr_recover.proofs.Between.{between_none}
 use Rattle.fdr_pair.specs.declared.bring.BringFault.{BringFault}
 use Rattle.fdr_pair.proofs.PairWorks.{content_here, content_then}
 use Rattle.fdr_pair.proofs.Bringing.{brought_none, brings_here, brought_next, brings_next, brings_missing}
-use Rattle.fdr_pair.proofs.Bringing.{found_there, brings_all, brought_all, no_fault_then, behind_still}
+use Rattle.fdr_pair.proofs.Bringing.{found_there, brings_all, brought_all, brought_so_far, behind_still}
 use Rattle.fdr_pair.proofs.bring.bring_up.Goals as goal
 
 -- the fault that is handed on
@@ -31,13 +33,15 @@ returns-in_err-level-clause-work g c =
     c.bring_block.ensures.work
 
 pub returns-in_err-level-clause-not_found : goal.returns-in_err-level-clause-not_found
-returns-in_err-level-clause-not_found g c n fails =
+returns-in_err-level-clause-not_found g c r fails =
     let inv = c.loop-seq.invariant in
     let p = err_from_is_err_and c.from_residual.result c.from_residual.ensures.1 in
-    let at = c.in_err-level.ensures.not_found n (same_fault _ _ _ _ p.1 p.2 fails) in (
-      omega (arith, at.0, c.loop-seq.auto.seq, c.next-seq.ensures.number),
-      omega (arith, at.0, c.loop-seq-test.true),
-      no_fault_then _ _ _ inv.brought.no_fault at.1,
+    let at = c.in_err-level.ensures.not_found r (same_fault _ _ _ _ p.1 p.2 fails) in
+    let number : r.next ≡ c.loop-seq.seq = ap (λ (x : Ring). x.next) at.0 ∙ inv.next in (
+      omega (arith, number, c.loop-seq.auto.seq, c.next-seq.ensures.number),
+      omega (arith, number, c.loop-seq-test.true),
+      brought_so_far _ _ _ _ _ (λ n. blocks_between c.args.ring.header (disk_on c.args.lead (g.T.Twin.pair c.args.twin.now)).held c.args.ring.next n)
+          _ _ _ _ inv.lead inv.brought (g.met.T.Twin.sound_pair c.loop-seq.twin) at.1 number,
       λ told. found_there _ _ _ _ _ _ _ _ (g.T.Twin.pair c.bring_block.new.twin) (g.met.T.Twin.sound_pair c.loop-seq.twin)
           (omega (arith, c.loop-seq.auto.seq, c.next-seq.ensures.number)) (omega (arith, c.loop-seq-test.true)) c.requires.end c.requires.near
           c.requires.ring.sure.ring.next inv.next inv.lead inv.brought told (at.2 told),
