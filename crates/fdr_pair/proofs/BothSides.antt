@@ -22,6 +22,8 @@ use Rattle.fdr_pair.proofs.Going.{exact_none}
 use Rattle.fdr_pair.proofs.Onward.{moment_more, moments_on, now_on}
 use Rattle.fdr_pair.proofs.Servings.{now_told}
 use Rattle.fdr_pair.proofs.KeptSides.{kept_here, kept_more, kept_then}
+use Rattle.fdr_pair.proofs.Nearness.{near_here, near_on_then}
+use Rattle.fdr_pair.specs.Ahead.{StaysNearOn}
 
 -- ---- one side
 
@@ -100,6 +102,7 @@ PairRecordsFirst-here tells rings new p sound settled = record {
   first_kept = kept_here tells First rings.first new p sound settled.first;
   second_kept = kept_here tells Second rings.second new p sound settled.second;
   numbers = counts_here tells rings.next (length new) p sound;
+  near = λ told side. near_here tells rings.header side p sound;
 }
 
 pub PairRecordsAll-here : (tells : Tells) (rings : PairRings) (p : Pair) → AreSettled tells rings p → PairRecordsAll tells rings rings [] p p
@@ -120,6 +123,7 @@ PairRecordsFirst-more tells rings new more p q is = record {
   first_kept = λ stops m since. kept_more First rings.first new more p m (is.first_kept stops m since);
   second_kept = λ stops m since. kept_more Second rings.second new more p m (is.second_kept stops m since);
   numbers = counts_more tells rings.next (length new) (length (new ++ more)) p q (omega (arith, length-append new more)) is.numbers;
+  near = is.near;
 }
 
 -- blocks, and then others
@@ -137,6 +141,10 @@ module _ (tells : Tells) (rings mid : PairRings) (new more : List Block) (p q r 
         next.second_kept;
     numbers = counts_more tells rings.next (length new + length more) (length (new ++ more)) p r (omega (arith, length-append new more))
         (counts_then tells rings.next mid.next (length new) (length more) p q r sound all.next first.numbers next.numbers);
+    near = λ told side.
+        let here = all.announced told in
+        near_on_then tells rings.header side p q r first.numbers.time next.numbers.time (first.near told side)
+        (subst (λ (h : Header). StaysNearOn tells h side q r) all.header (next.near (omega (arith, here, all.next)) side));
   }
 
 -- all of the first, and then what became of the others

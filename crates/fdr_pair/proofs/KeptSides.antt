@@ -128,7 +128,7 @@ kept_before side (Some r) new p q m same is =
     subst (λ (l : List ℕ). RecoversPrefix r.header l (recovered_run r.header l) new 0 (image_on side m)) same.held is
 
 -- the announcement leaves both
-tell_left : (tells : Tells) (side : Side) (o u : Option Ring) (count : ℕ) (p q : Pair) → IsSoundPair tells p → AnnouncesLiving tells o u count p q
+pub tell_left : (tells : Tells) (side : Side) (o u : Option Ring) (count : ℕ) (p q : Pair) → IsSoundPair tells p → AnnouncesLiving tells o u count p q
     → EachPairMoment tells p q (λ m. (disk_on side p).may_leave (image_on side m))
 tell_left tells First (Some r) u count p q sound tell stops m since = (tell.moments stops m since).image
 tell_left tells Second (Some r) u count p q sound tell stops m since = other_left tells Second p q sound tell.away stops m since
@@ -136,7 +136,7 @@ tell_left tells First None (Some s) count p q sound tell stops m since = other_l
 tell_left tells Second None (Some s) count p q sound tell stops m since = (tell.moments stops m since).image
 tell_left tells side None None count p q sound tell stops m since = now_left_image tells side p sound stops m (tell.moments m since)
 
-tell_time : (tells : Tells) (o u : Option Ring) (count : ℕ) (p q : Pair) → AnnouncesLiving tells o u count p q → PairElapses p q
+pub tell_time : (tells : Tells) (o u : Option Ring) (count : ℕ) (p q : Pair) → AnnouncesLiving tells o u count p q → PairElapses p q
 tell_time tells (Some r) u count p q tell = tell.time
 tell_time tells None (Some s) count p q tell = tell.time
 tell_time tells None None count p q tell = tell.time

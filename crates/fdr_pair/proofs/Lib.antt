@@ -1,3 +1,5 @@
+pub mod NearDecks
+pub mod NearLeft
 pub mod Puts
 pub mod Sides
 pub mod SideCounts
@@ -7,6 +9,7 @@ pub mod Going
 pub mod Both
 pub mod Onward
 pub mod KeptSides
+pub mod Nearness
 pub mod PairWorks
 pub mod Opening
 mod FourWords

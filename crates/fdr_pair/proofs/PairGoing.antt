@@ -31,7 +31,7 @@ use Rattle.fdr_recorder.specs.declared.source.SourceEnd.TheVariants as source
 use Rattle.fdr_pair.specs.Brought.{brought_run}
 use Rattle.fdr_pair.specs.Alike.{AreAlike, lead_on, follower_on, lead_image, follower_image}
 use Rattle.fdr_pair.specs.Living.{Follows, HasGoneOn, HasLiving, SideNow}
-use Rattle.fdr_pair.specs.PairRecording.{PairRecordsAll}
+use Rattle.fdr_pair.specs.PairRecording.{IsSettledSide, PairRecordsAll}
 use Rattle.fdr_pair.specs.PairMoments.{HasFailedBeforePull, HasFailedBy, KeepsBroughtRun, KeepsOwnRun, KeepsUpBy}
 use Rattle.fdr_pair.specs.PairAnswers.{recording_answer_of}
 use Rattle.fdr_pair.specs.PairEnds.{HoldsAfter, LeadHolds, FollowerHoldsBrought, FollowerHoldsOwn, HasFailedSince, HoldWithLead, HoldWithoutLead}
@@ -48,7 +48,11 @@ use Rattle.fdr_pair.specs.declared.rings.PairRings.{PairRings}
 use Rattle.fdr_pair.specs.declared.start.PairStart.{PairStart}
 use Rattle.fdr_pair.proofs.Leading.{one_header}
 use Rattle.fdr_pair.proofs.PairKeeping.{blocks_same, failed_by, follows_on, follower_kept, from_image, keeps_first, kept_on, lead_kept, lead_run_kept, over}
-use Rattle.fdr_pair.proofs.PairKeeping.{over_pulled}
+use Rattle.fdr_pair.proofs.PairKeeping.{over_pulled, settled_now}
+use Rattle.fdr_pair.proofs.Nearness.{near_ring}
+use Rattle.fdr_pair.specs.Ahead.{IsCloseOn}
+use Rattle.fdr_pair.specs.PairMoments.{HasPulledBytes}
+use Rattle.fdr_twin.specs.Serving.{EachPairMoment}
 use Rattle.fdr_pair.proofs.PairKeeping.{rose_before, unread_kept}
 use Rattle.fdr_pair.proofs.PairHaving.{kept_with_lead, kept_without_lead, right_lead, right_other}
 
@@ -164,6 +168,28 @@ module _ (t : TableRows) (tells : Tells) (s : PairStart) (p0 p5 p6 : Pair) (end 
     moments = over_pulled t tells s p0 p5 p6 end sound started recorded (HasFailedBy side p0)
         (λ stops m since some. failed_by t tells s p0 p5 p6 end sound started recorded side none stops m since);
   }
+
+  -- ---- how far it is ahead of what is announced
+
+  close_by : (side : Side) (o : Option Ring) → ring_on side rings ≡ o → EachPairMoment tells p0 p6
+      (λ m. HasPulledBytes p0 m → HasFailedBy side p0 m ⊎ IsCloseOn rings.header rings.next side m)
+  close_by side None none = λ stops m since some. inl ((failed_before_pull side none).moments stops m since some)
+  close_by side (Some r) is = over_pulled t tells s p0 p5 p6 end sound started recorded
+      (λ m. HasFailedBy side p0 m ⊎ IsCloseOn rings.header rings.next side m)
+      (λ stops m since some.
+      let follows = follows_on t tells s p0 p5 p6 end sound started recorded side r is in
+      let settled : IsSettledSide tells side (Some r) p5 = subst (λ o. IsSettledSide tells side o p5) is
+      (settled_now t tells s p0 p5 p6 end sound started recorded side) in
+      inr (inr ((recorded.near started.begun.announced side).moments rings.next
+      (near_ring tells rings.header rings.next side r p5 sound stops settled follows.0 follows.1) stops m since)))
+
+  -- by the header and the next number of an image
+  close_from : (image : List ℕ) → rings.header ≡ header_in image → rings.next ≡ next_in image → (side : Side) → EachPairMoment tells p0 p6
+      (λ m. HasPulledBytes p0 m → HasFailedBy side p0 m ⊎ IsCloseOn (header_in image) (next_in image) side m)
+  close_from image header number side =
+      subst (λ (n : ℕ). EachPairMoment tells p0 p6 (λ m. HasPulledBytes p0 m → HasFailedBy side p0 m ⊎ IsCloseOn (header_in image) n side m)) number
+      (subst (λ (h : Header). EachPairMoment tells p0 p6 (λ m. HasPulledBytes p0 m → HasFailedBy side p0 m ⊎ IsCloseOn h rings.next side m)) header
+      (close_by side (ring_on side rings) refl))
 
   -- ---- how the recording keeps up
 
@@ -344,6 +370,7 @@ module _ (t : TableRows) (tells : Tells) (s : PairStart) (p0 p5 p6 : Pair) (end 
           w.follower;
       read = λ late. right_lead t tells s p0 p5 p6 end sound started recorded told w;
       kept = λ side read may. kept_with_lead t tells s p0 p5 p6 end sound started recorded may w side read;
+      close = close_from (lead_image p0) w.header w.next;
       in_time = λ may. keeps_up (lead_image p0) w.header w.next;
       ends = ended_by (λ done. HoldWithLead tells done p0 p6) (lead_image p0) w.header w.next w.after
           (have_ended (λ done. HoldWithLead tells done p0 p6) (λ left done all. hold_with_lead told left done all w));
@@ -361,6 +388,7 @@ module _ (t : TableRows) (tells : Tells) (s : PairStart) (p0 p5 p6 : Pair) (end 
           w.header w.next w.after late))
           (kept_on t tells s p0 p5 p6 end sound started recorded (follower_on p0) (run_in (follower_image p0)) w.follower stops m since (inr some)));
       kept = λ side read may. kept_without_lead t tells s p0 p5 p6 end sound started recorded may w side read;
+      close = close_from (follower_image p0) w.header w.next (follower_on p0);
       in_time = λ may. keeps_up (follower_image p0) w.header w.next;
       ends = ended_by (λ done. HoldWithoutLead tells done p0 p6) (follower_image p0) w.header w.next w.after
           (have_ended (λ done. HoldWithoutLead tells done p0 p6) (λ left done all. hold_without_lead told left done all w));
@@ -424,6 +452,7 @@ module _ (t : TableRows) (tells : Tells) (p0 p : Pair) (why : PairOutcome) (refu
         );
         read = λ late. absurd (⊎_elim (λ all. open_end all) (λ ends. no_end ends) late);
         kept = λ side read may stops m since some. let none = (refused.keeps.unpulled stops m since).taken in absurd (omega (arith, some, none));
+        close = λ side stops m since some. let none = (refused.keeps.unpulled stops m since).taken in absurd (omega (arith, some, none));
         in_time = λ may stops m since.
             let at = refused.keeps.unpulled stops m since in
             record { pulled = inl (record { taken = at.taken; pulled_before = at.pulled_before }) };

@@ -124,7 +124,7 @@ module _ (t : TableRows) (tells : Tells) (s : PairStart) (p0 p5 p6 : Pair) (end 
   follows_on First = rings.first_follows
   follows_on Second = rings.second_follows
 
-  settled_now : (side : Side) → IsSettledSide tells side (ring_on side rings) p5
+  pub settled_now : (side : Side) → IsSettledSide tells side (ring_on side rings) p5
   settled_now First = started.begun.settled.first
   settled_now Second = started.begun.settled.second
 

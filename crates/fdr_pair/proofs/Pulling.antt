@@ -8,7 +8,7 @@ use Rattle.fdr_bus.specs.Records.{IsDecided}
 use Rattle.fdr_deck.specs.State.{State, Tells}
 use Rattle.fdr_deck.specs.Calls.{HasOneAnnounced, KeepsAnnounced, LeavesDisk}
 use Rattle.fdr_deck.specs.Moments.{IsSoundDeck}
-use Rattle.fdr_deck.proofs.Moments.{KeepsAnnounced-greatest}
+use Rattle.fdr_deck.proofs.Moments.{KeepsAnnounced-greatest, KeepsAnnounced-least}
 use Rattle.fdr_slot.specs.declared.image.Header.{Header}
 use Rattle.fdr_recover.specs.Images.{recovered_run}
 use Rattle.fdr_ring.specs.declared.ring.Ring.{Ring}
@@ -81,6 +81,12 @@ module _ (tells : Tells) (s t : State) (p q : Pair) (sound : IsSoundPair tells p
         ⊎_elim (λ same. inl (same.taken ∙ sym here.taken, omega (arith, at.greatest, here.greatest)))
         (λ pulling. inr (pulling.announced ∙ sym here.announced)) at.pulled
 
+    -- no number below those from before is announced
+    pub pull_low : EachPairMoment tells p q (λ m. p.least ≤ m.announced)
+    pull_low stops m since =
+        let at = shows tells (IsTraceMoment s bytes more records) p.turned s t p q here same_turned reads.moments stops m since in
+        omega (arith, at.least, here.least)
+
     -- until bytes are pulled, nothing is done
     pub pull_idle : EachPairMoment tells p q (IsIdleUntilPull p)
     pull_idle stops m since =
@@ -109,6 +115,9 @@ module _ (tells : Tells) (s t : State) (p q : Pair) (sound : IsSoundPair tells p
         undecided = λ some. subst (λ (n : ℕ). IsDecided (bytes ++ take n more) → ⊥) same (pulls.undecided some);
         faults = omega (arith, pulls.faults, here.input_faults, there.input_faults);
       }
+
+  pub pull_no_less : IsSoundDeck tells s → KeepsAnnounced s t → p.least ≤ q.least
+  pull_no_less sound_s told = omega (arith, KeepsAnnounced-least tells s t sound_s told, here.least, there.least)
 
   pub pull_announced : KeepsAnnounced s t → q.announced ≡ p.announced
   pull_announced told = there.announced ∙ told.announced ∙ sym here.announced

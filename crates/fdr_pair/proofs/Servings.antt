@@ -1,5 +1,5 @@
 -- A block on a side that may have failed.
-use Rattle.std.proofs.Common.{◌≡◌, ℕ, ◌+◌, ◌≤◌, List, [], ◌∷◌, refl, arith, Some, None}
+use Rattle.std.proofs.Common.{◌≡◌, ℕ, ◌+◌, ◌≤◌, List, [], ◌∷◌, refl, sym, subst, arith, Some, None}
 use Rattle.std.specs.Prelude.{IsTrue}
 use Rattle.fdr_io.specs.Faults.{Rose}
 use Rattle.fdr_deck.specs.State.{Tells, Moment}
@@ -12,10 +12,15 @@ use Rattle.fdr_twin.specs.Pair.{Pair, other_side, disk_on, image_on, seen}
 use Rattle.fdr_twin.specs.Sound.{IsSoundPair}
 use Rattle.fdr_twin.specs.Serving.{EachPairMoment, Serves}
 use Rattle.fdr_twin.specs.RestSound.{PairElapses-here, LeavesSide-here}
+use Rattle.fdr_pair.specs.Ahead.{StaysNearOn}
 use Rattle.fdr_pair.specs.Numbers.{KeepsLine}
 use Rattle.fdr_pair.specs.Putting.{AddsExactly, HasPut, MayPut}
 use Rattle.fdr_pair.specs.SidePuts.{next_block, IsQuiet, IsSettledRing, PutsUnlessFailed}
+use Rattle.fdr_pair.proofs.NearLeft.{near_left}
 use Rattle.fdr_pair.proofs.SideCounts.{counted_here}
+use Rattle.fdr_slot.specs.declared.image.Header.{Header}
+use Rattle.fdr_twin.proofs.Serves.{other_left}
+use Rattle.std.specs.Option.{ForSome}
 use Rattle.fdr_pair.specs.SideCounts.{CountsBoth}
 
 -- the moments of a twin now have a told number no greater than the greatest
@@ -34,6 +39,11 @@ now_quiet tells side p sound stops m since =
 pub line_here : (p : Pair) → KeepsLine p p
 line_here p = record { input = refl; taken = refl; pulled_before = refl; input_faults = refl }
 
+-- nothing was done
+still_near : (tells : Tells) (h : Header) (side : Side) (p : Pair) → IsSoundPair tells p → StaysNearOn tells h side p p
+still_near tells h side p sound = near_left tells h side p p (other_left tells side p p sound (LeavesSide-here side p))
+    (λ stops m since. (now_quiet tells side p sound stops m since).least) (λ image leaves. leaves) (omega arith)
+
 -- nothing is done on a side that has failed
 pub puts_none : (tells : Tells) (side : Side) (session : ℕ) (bytes : List ℕ) (p : Pair) → IsSoundPair tells p
     → PutsUnlessFailed tells side None None session bytes p p
@@ -47,12 +57,14 @@ puts_none tells side session bytes p sound = record {
   greatest = omega arith;
   moments = now_quiet tells side p sound;
   own = record { moments = λ stops m since. since; faults = refl };
+  near = λ h follows. still_near tells h side p sound;
+  near_away = λ h. still_near tells h (other_side side) p sound;
 }
 
 module _ (tells : Tells) (side : Side) (r : Ring) (session : ℕ) (bytes : List ℕ) (old new : Pair) (sound : IsSoundPair tells old)
     (settled : IsTrue tells.stops → IsSettled (seen side old))
     (served : Serves tells side (OfSettled (seen side old) (MayPut r.header (next_block r session bytes))) old new)
-    (counts : CountsBoth old new) where
+    (counts : CountsBoth old new) (puts_near : old.announced ≡ r.next → StaysNearOn tells r.header side old new) where
   own_moments : EachPairMoment tells old new (λ m. MayPut r.header (next_block r session bytes) (disk_on side old).held (image_on side m))
   own_moments stops m since = (served.moments stops m since).image (settled stops)
 
@@ -77,6 +89,13 @@ module _ (tells : Tells) (side : Side) (r : Ring) (session : ℕ) (bytes : List 
   quiet stops m since = let at = served.moments stops m since in
       record { least = at.least; greatest = at.greatest; pulled = record { taken = at.taken; pulled_before = at.pulled_before } }
 
+  near : (h : Header) → ForSome (Some r) (λ x. (x.header ≡ h) × (x.next ≡ old.announced)) → StaysNearOn tells h side old new
+  near h follows = let is = follows r refl in subst (λ (x : Header). StaysNearOn tells x side old new) is.0 (puts_near (sym is.1))
+
+  near_away : (h : Header) → StaysNearOn tells h (other_side side) old new
+  near_away h = near_left tells h (other_side side) old new (λ stops m since. (served.moments stops m since).other)
+      (λ stops m since. (quiet stops m since).least) served.other.disk.no_more least
+
   pub puts_failed : Rose (disk_on side old).faults (disk_on side new).faults → PutsUnlessFailed tells side (Some r) None session bytes old new
   puts_failed rose = record {
     time = served.time;
@@ -88,6 +107,8 @@ module _ (tells : Tells) (side : Side) (r : Ring) (session : ℕ) (bytes : List 
     greatest = greatest;
     moments = quiet;
     own = record { moments = own_moments; faults = rose };
+    near = near;
+    near_away = near_away;
   }
 
   pub puts_put : (s : Ring) → s.header ≡ r.header → s.next ≡ r.next + 1 → (disk_on side new).faults ≡ (disk_on side old).faults
@@ -104,4 +125,6 @@ module _ (tells : Tells) (side : Side) (r : Ring) (session : ℕ) (bytes : List 
     greatest = greatest;
     moments = quiet;
     own = record { moments = own_moments; header = header; next = next; faults = faults; put = put; exact = exact; ring = ring };
+    near = near;
+    near_away = near_away;
   }

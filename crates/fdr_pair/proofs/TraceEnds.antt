@@ -49,7 +49,7 @@ use Rattle.fdr_pair.proofs.BothSides.{BothFailed-then, PairRecordsAll-then}
 use Rattle.fdr_pair.proofs.Idling.{IsIdleUntilPull}
 use Rattle.fdr_pair.proofs.Onward.{moment_more}
 use Rattle.fdr_pair.proofs.Tracing.{first_after, in_time_after, pulls_after, second_after, time_after, counts_after, first_kept_after, second_kept_after}
-use Rattle.fdr_pair.proofs.Tracing.{idle_after}
+use Rattle.fdr_pair.proofs.Tracing.{idle_after, near_after}
 use Rattle.fdr_pair.proofs.KeptSides.{kept_more}
 
 -- ---- how the trace ended
@@ -273,6 +273,7 @@ module _ (tells : Tells) (past : RecordingPast) (rings : PairRings) (s : PairSes
             (kept_more Second rings.second so_far later start m
             (second_kept_after tells before rings s bytes start p sound begins has q blocks wrote stops m since));
         in_time = in_time_after tells before rings s bytes start p sound begins has q blocks wrote;
+        near = near_after tells before rings s bytes start p sound begins has q blocks wrote;
         idle = idle;
         recorded = λ whole. absurd (cut_short f whole);
         within = λ whole. absurd (cut_short f whole);
@@ -327,6 +328,7 @@ module _ (tells : Tells) (past : RecordingPast) (rings : PairRings) (s : PairSes
         second_kept = λ stops m since. subst (λ (l : List Block). SideKept Second rings.second l start m) (sym parts)
             (second_kept_after tells before rings s whole.pulled start p sound begins whole.has q (rest_of before) wrote stops m since);
         in_time = in_time_after tells before rings s whole.pulled start p sound begins whole.has q (rest_of before) wrote;
+        near = near_after tells before rings s whole.pulled start p sound begins whole.has q (rest_of before) wrote;
         idle = idle_whole;
         recorded = λ done. (left, all);
         within = λ done. omega (arith, all.next, left.bound, begins);

@@ -38,11 +38,15 @@ use Rattle.fdr_pair.proofs.Going.{on}
 use Rattle.fdr_pair.proofs.Onward.{moments_where, now_on}
 use Rattle.fdr_pair.proofs.Idling.{IsIdleUntilPull, idle_now, idle_on, still_here, still_then}
 use Rattle.fdr_pair.proofs.Pulling.{IsLeft, image_left, left, moments_left, now_left, pull_announced, pull_greatest, pull_idle, pull_in_time}
-use Rattle.fdr_pair.proofs.Pulling.{pull_least, pull_told, pulls_seen}
+use Rattle.fdr_pair.proofs.Pulling.{pull_least, pull_low, pull_no_less, pull_told, pulls_seen}
 use Rattle.fdr_pair.proofs.Servings.{now_quiet}
 use Rattle.fdr_pair.proofs.SideCounts.{counted_here, counted_rest, counted_then}
 use Rattle.fdr_pair.specs.SideCounts.{CountsBoth}
 use Rattle.fdr_pair.proofs.KeptSides.{kept_here, kept_left, kept_then}
+use Rattle.fdr_pair.proofs.NearLeft.{near_left}
+use Rattle.fdr_pair.proofs.Nearness.{near_here, near_on_then}
+use Rattle.fdr_pair.specs.Ahead.{StaysNearOn}
+use Rattle.fdr_slot.specs.declared.image.Header.{Header}
 
 -- nothing was pulled yet
 few_first : (past : RecordingPast) (start : Pair) (n : ℕ) → n ≡ start.taken → TellsOnlySince past.first start n → start.greatest ≤ past.first
@@ -81,6 +85,7 @@ fed_none tells s past p sound is stands =
         least = λ some. absurd (omega (arith, some));
         announced = omega (arith, is.announced, none);
       };
+      near = λ told side. near_here tells s.rings.header side p sound;
       idle = idle_now tells p sound;
       still = λ none side. still_here p side;
     }
@@ -155,6 +160,11 @@ module _ (tells : Tells) (past : RecordingPast) (rings : PairRings) (s : PairSes
         (λ given. inr (omega (arith, given, has.pulls.takes.taken)))
         (pull_idle tells a b p q sound here there rest leaves bytes more past.records reads stops m since)
 
+    near_pull : (side : Side) → StaysNearOn tells rings.header side p q
+    near_pull side = near_left tells rings.header side p q (λ stops m since. image_left tells side p q sound (is_left side) stops m since)
+        (pull_low tells a b p q sound here there rest leaves bytes more past.records reads) (is_left side).disk.no_more
+        (pull_no_less tells a b p q sound here there rest leaves sound_a told)
+
     pub fed_pull : HasFedPair tells past rings s (bytes ++ more) start q
     fed_pull = record {
       pulls = pulled;
@@ -190,6 +200,7 @@ module _ (tells : Tells) (past : RecordingPast) (rings : PairRings) (s : PairSes
             reads told fresh (λ same. has.up (same_since past start q.taken p.taken same few));
         announced = omega (arith, enough, pull_announced tells a b p q sound here there rest leaves told);
       };
+      near = λ told side. near_on_then tells rings.header side start p q has.time rest.time (has.near told side) (near_pull side);
       idle = on tells (IsIdleUntilPull start) start p q has.time rest.time has.idle idle_pull;
       still = λ none side. still_then start p q side (has.still (omega (arith, none, length-append bytes more)) side) (is_left side).disk;
     }
@@ -229,6 +240,12 @@ module _ (tells : Tells) (past : RecordingPast) (rings : PairRings) (s : PairSes
         let now = few_still stops m since few in
         lag_still (owed_number_by past) tells (seen First start) (seen First p) bytes past.records (shown_on First m) (has.up now)
         (record { taken = at.taken; pulled_before = at.pulled_before }) (records.numbers.told (few_now now) stops m since))
+
+    pub near_after : start.announced ≡ rings.next → (side : Side) → StaysNearOn tells rings.header side start q
+    near_after told side =
+        let here = has.recorded.announced told in
+        near_on_then tells rings.header side start p q has.time records.numbers.time (has.near told side)
+        (subst (λ (h : Header). StaysNearOn tells h side p q) has.recorded.header (records.near (omega (arith, here, has.recorded.next)) side))
 
     pub idle_after : 0 < length bytes → EachPairMoment tells start q (IsIdleUntilPull start)
     idle_after some = on tells (IsIdleUntilPull start) start p q has.time records.numbers.time has.idle
@@ -303,6 +320,7 @@ module _ (tells : Tells) (past : RecordingPast) (rings : PairRings) (s : PairSes
             };
         announced = fed_told;
       };
+      near = near_after q (blocks_due_at past r) records;
       idle = idle_after q (blocks_due_at past r) records some;
       still = λ none. absurd (omega (arith, none, some));
     }

@@ -1,3 +1,4 @@
+pub mod Ahead
 pub mod Putting
 pub mod SideCounts
 pub mod Numbers

@@ -18,8 +18,10 @@ use Rattle.fdr_twin.specs.Serving.{EachPairMoment}
 use Rattle.fdr_recorder.specs.NewBlocks.{new_blocks, next_in}
 use Rattle.fdr_pair.specs.Brought.{brought_run}
 use Rattle.fdr_pair.specs.Alike.{AreAlike, lead_on, follower_on, lead_image, follower_image}
-use Rattle.fdr_pair.specs.PairMoments.{MayRecordPair, HasPulledBytes, HasFailedBeforePull, KeepsBroughtRun, KeepsOwnRun, KeepsRunWith, KeepsUpBy, blocks_to_get}
+use Rattle.fdr_pair.specs.PairMoments.{MayRecordPair, HasPulledBytes, HasFailedBeforePull, HasFailedBy, KeepsBroughtRun, KeepsOwnRun}
+use Rattle.fdr_pair.specs.PairMoments.{KeepsRunWith, KeepsUpBy, blocks_to_get}
 use Rattle.fdr_pair.specs.Opening.{IsRightImage}
+use Rattle.fdr_pair.specs.Ahead.{IsCloseOn}
 
 -- In the end a side, whose count of faults is as it was, holds the last N - 1 blocks of a run, whose next number was `next`, with
 -- these blocks after it. Its header says what it said, and where stops are told, the disk is settled.
@@ -82,6 +84,9 @@ pub record GoesOnWithLead (t : TableRows) (tells : Tells) (records : List BusRec
   pub read : all ⊎ used_up → IsRightImage t.frame.words (lead_image old)
   pub kept : (side : Side) → image_fault_of (disk_on side old).held ≡ None → MayRecordPair old → EachPairMoment tells old new
       (λ m. HasPulledBytes old m → KeepsRunWith side (blocks_to_get (lead_on old) side t records old) old m)
+  -- on a side that hasn't failed at most one recorded block isn't announced
+  pub close : (side : Side) → EachPairMoment tells old new (λ m. HasPulledBytes old m
+      → HasFailedBy side old m ⊎ IsCloseOn (header_in (lead_image old)) (next_in (lead_image old)) side m)
   pub in_time : MayRecordPair old → KeepsUpBy (lead_image old) t tells pulled old new
   pub ends : HaveEnded (next_in (lead_image old)) (new_blocks t (lead_image old) records)
       (λ blocks. HoldWithLead tells blocks old new) all used_up
@@ -96,6 +101,8 @@ pub record GoesOnWithoutLead (t : TableRows) (tells : Tells) (records : List Bus
   pub follower : MayRecordPair old → EachPairMoment tells old new (λ m. HasPulledBytes old m → KeepsOwnRun (follower_on old) t records old m)
   pub kept : (side : Side) → image_fault_of (disk_on side old).held ≡ None → MayRecordPair old → EachPairMoment tells old new
       (λ m. HasPulledBytes old m → KeepsRunWith side (blocks_to_get (follower_on old) side t records old) old m)
+  pub close : EachPairMoment tells old new (λ m. HasPulledBytes old m → HasFailedBy (follower_on old) old m
+      ⊎ IsCloseOn (header_in (follower_image old)) (next_in (follower_image old)) (follower_on old) m)
   pub in_time : MayRecordPair old → KeepsUpBy (follower_image old) t tells pulled old new
   pub ends : HaveEnded (next_in (follower_image old)) (new_blocks t (follower_image old) records)
       (λ blocks. HoldWithoutLead tells blocks old new) all used_up

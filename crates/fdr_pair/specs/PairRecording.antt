@@ -10,6 +10,7 @@ use Rattle.fdr_twin.specs.Pair.{Pair}
 use Rattle.fdr_twin.specs.Serving.{EachPairMoment}
 use Rattle.fdr_pair.specs.SidePuts.{IsSettledRing}
 use Rattle.fdr_pair.specs.Numbers.{CountsOn}
+use Rattle.fdr_pair.specs.Ahead.{StaysNearOn}
 use Rattle.fdr_pair.specs.Living.{SideKept, SideMoment, SideNow}
 use Rattle.fdr_pair.specs.declared.rings.PairRings.{PairRings}
 
@@ -32,6 +33,8 @@ pub record PairRecordsFirst (tells : Tells) (rings : PairRings) (new : List Bloc
   pub first_kept : EachPairMoment tells old now (SideKept First rings.first new old)
   pub second_kept : EachPairMoment tells old now (SideKept Second rings.second new old)
   pub numbers : CountsOn tells rings.next (length new) old now
+  -- where the number before them is announced, each is announced before the next one is put
+  pub near : old.announced ≡ rings.next → (side : Side) → StaysNearOn tells rings.header side old now
 
 -- All of these blocks are on each side that hasn't failed, and are announced. The rings are those of `left` now.
 pub record PairRecordsAll (tells : Tells) (rings left : PairRings) (new : List Block) (old now : Pair) : Type 0 where

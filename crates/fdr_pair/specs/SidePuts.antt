@@ -14,6 +14,9 @@ use Rattle.fdr_twin.specs.Serving.{EachPairMoment}
 use Rattle.fdr_pair.specs.Putting.{AddsExactly, HasPut, MayPut}
 use Rattle.fdr_pair.specs.Numbers.{KeepsLine, HasPulled}
 use Rattle.fdr_pair.specs.SideCounts.{CountsBoth}
+use Rattle.fdr_pair.specs.Ahead.{StaysNearOn}
+use Rattle.fdr_slot.specs.declared.image.Header.{Header}
+use Rattle.std.specs.Option.{ForSome}
 
 -- the next block of a ring, of the session with this number and with these bytes
 abbrev pub next_block : Ring → ℕ → List ℕ → Block
@@ -85,3 +88,6 @@ pub record PutsUnlessFailed (tells : Tells) (side : Side) (ring result : Option 
   pub greatest : new.greatest ≤ old.greatest
   pub moments : EachPairMoment tells old new (IsQuiet old)
   pub own : PutOwn tells side ring result session bytes old new
+  -- where the number before the block is announced, the side gets no further ahead of what is
+  pub near : (h : Header) → ForSome ring (λ r. (r.header ≡ h) × (r.next ≡ old.announced)) → StaysNearOn tells h side old new
+  pub near_away : (h : Header) → StaysNearOn tells h (other_side side) old new

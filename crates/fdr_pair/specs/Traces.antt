@@ -31,6 +31,7 @@ use Rattle.fdr_pair.specs.declared.fault.PairFault.TheVariants as fault
 use Rattle.fdr_pair.specs.declared.rings.PairRings.{PairRings}
 use Rattle.fdr_pair.specs.declared.session.PairSession.{PairSession}
 use Rattle.fdr_pair.specs.SideCounts.{CountsBoth}
+use Rattle.fdr_pair.specs.Ahead.{StaysNearOn}
 
 -- The session was just started, its rings are on settled disks, and their next number is announced.
 pub record IsPairBegun (tells : Tells) (s : PairSession) (past : RecordingPast) (p : Pair) : Type 0 where
@@ -78,6 +79,7 @@ pub record HasFedPair (tells : Tells) (past : RecordingPast) (rings : PairRings)
   pub second_kept : EachPairMoment tells old now (SideKept Second rings.second (recorded_of past) old)
   pub in_time : EachPairMoment tells old now
       (λ m. TellsOnlySince past.first old m.taken → IsPairLagMoment (owed_number_by past) old bytes m)
+  pub near : old.announced ≡ rings.next → (side : Side) → StaysNearOn tells rings.header side old now
   pub up : TellsOnlySince past.first old now.taken → KeepsUp (owed_number_by past) tells (seen First old) (seen First now) bytes past.records
 
 -- All records of the trace were fed to the session, and so the trace ended.
@@ -119,6 +121,8 @@ pub record PairRecordsTrace (tells : Tells) (past : RecordingPast) (rings : Pair
   pub second_kept : EachPairMoment tells old now (SideKept Second rings.second (trace_blocks past pulled) old)
   pub in_time : EachPairMoment tells old now
       (λ m. TellsOnlySince past.first old m.taken → IsPairLagMoment (owed_number_by past) old pulled m)
+  -- where the number before them is announced, each block is announced before the next one is put
+  pub near : old.announced ≡ rings.next → (side : Side) → StaysNearOn tells rings.header side old now
   pub recorded : HasRecordedSource (recording_end end)
       → (left : PairRings) × PairRecordsAll tells rings left (trace_blocks past pulled) old now
   pub within : HasRecordedSource (recording_end end) → past.first + length (trace_blocks past pulled) ≤ sequence_end

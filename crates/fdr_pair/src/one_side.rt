@@ -8,6 +8,7 @@ ghost use Rattle.fdr_ring.specs.Rings.{IsRing, IsSureRing, OfSettled};
 ghost use Rattle.fdr_twin.specs.Pair.{seen, disk_on};
 ghost use Rattle.fdr_twin.specs.Serving.{Serves};
 ghost use Rattle.fdr_pair.specs.Putting.{AddsExactly, HasPut, MayPut};
+ghost use Rattle.fdr_pair.specs.Ahead.{StaysNearOn};
 ghost use Rattle.fdr_pair.specs.SidePuts.{IsPutReady, PutsUnlessFailed};
 ghost use Rattle.fdr_pair.specs.SideCounts.{CountsBoth};
 
@@ -43,6 +44,8 @@ pub fn put_on<T: Twin>(
     ensures serves { Serves T.tells side
         (OfSettled (seen side (T.pair twin.old)) (MayPut ring.header (record { number = ring.next; session = session; payload = bytes.now })))
         (T.pair twin.old) (T.pair twin.new) }
+    ensures near { (IsTrue T.tells.stops → IsSettled (seen side (T.pair twin.old))) → (T.pair twin.old).announced ≡ ring.next
+        → StaysNearOn T.tells ring.header side (T.pair twin.old) (T.pair twin.new) }
     ensures counts { CountsBoth (T.pair twin.old) (T.pair twin.new) }
     ensures no_fault { OnOk result ((disk_on side (T.pair twin.new)).faults ≡ (disk_on side (T.pair twin.old)).faults) }
     ensures cause { result ≡ Err RingFault.DiskFault

@@ -7,6 +7,7 @@ ghost use Rattle.fdr_deck.specs.Calls.{IsDiskWork, Succeeds};
 ghost use Rattle.fdr_slot.specs.Limits.{sequence_end};
 ghost use Rattle.fdr_ring.specs.Rings.{IsRing, IsSureRing, OfSettled};
 ghost use Rattle.fdr_pair.specs.Putting.{AddsExactly, HasPut, MayPut};
+ghost use Rattle.fdr_pair.specs.Ahead.{StaysNear};
 
 use fdr_deck::Deck;
 use fdr_recover::RingFault;
@@ -36,6 +37,8 @@ pub fn put_block<D: Deck>(
     ensures disk_work { IsDiskWork D.tells
         (OfSettled (D.state deck.old) (MayPut ring.header (record { number = ring.next; session = session; payload = bytes.now })))
         (D.state deck.old) (D.state deck.new) }
+    ensures near { (IsTrue D.tells.stops → IsSettled (D.state deck.old)) → (D.state deck.old).announced ≡ ring.next
+        → StaysNear D.tells ring.header (D.state deck.old) (D.state deck.new) }
     ensures succeeds { OnOk result (Succeeds (D.state deck.old) (D.state deck.new)) }
     ensures cause { result ≡ Err RingFault.DiskFault
         → Rose (D.state deck.old).disk_faults (D.state deck.new).disk_faults }

@@ -5,7 +5,10 @@ ghost use Rattle.fdr_slot.specs.Limits.{sequence_end};
 ghost use Rattle.fdr_twin.specs.Serving.{EachPairMoment};
 ghost use Rattle.fdr_twin.specs.declared.side.Side.TheVariants as side;
 ghost use Rattle.fdr_pair.specs.Numbers.{CountsOn};
-ghost use Rattle.fdr_pair.specs.Living.{IsReadyFor, HasLiving, SideKept, SideMoment, SideNow};
+ghost use Rattle.fdr_pair.specs.Ahead.{StaysNearOn};
+ghost use Rattle.fdr_slot.specs.declared.image.Header.{Header};
+ghost use Rattle.fdr_twin.specs.declared.side.Side.{Side};
+ghost use Rattle.fdr_pair.specs.Living.{Follows, IsReadyFor, HasLiving, SideKept, SideMoment, SideNow};
 
 use crate::announce::announce_living;
 use crate::one_side::put_unless_failed;
@@ -40,6 +43,8 @@ pub fn record_block<T: Twin>(
         (T.pair twin.old) (T.pair twin.new) }
     ensures second_now { SideNow T.tells side.Second second result.1 (record { number = next; session = session; payload = bytes.now } ∷ [])
         (T.pair twin.old) (T.pair twin.new) }
+    ensures near { (h : Header) → (T.pair twin.old).announced ≡ next → Follows h next first → Follows h next second → (side : Side)
+        → StaysNearOn T.tells h side (T.pair twin.old) (T.pair twin.new) }
     ensures numbers { CountsOn T.tells next 1 (T.pair twin.old) (T.pair twin.new) }
     ensures announced { HasLiving result.0 result.1 → (T.pair twin.new).announced ≡ next + 1 }
 {

@@ -2,13 +2,14 @@ use Rattle.std.proofs.Common.{List, [], ◌∷◌, ℕ, sym, ◌∙◌, subst}
 use Rattle.std.proofs.lemmas.Result.{IfOk-weaker, on_ok_weaker}
 use Rattle.fdr_twin.specs.Pair.{seen}
 use Rattle.fdr_twin.specs.Same.{IsSameState}
-use Rattle.fdr_twin.proofs.Same.{IsSettled-same}
+use Rattle.fdr_twin.proofs.Same.{IsSame-sym, IsSettled-same}
 use Rattle.fdr_recover.specs.Blocks.{Block}
 use Rattle.fdr_pair.specs.Putting.{AddsExactly, HasPut, MayPut}
 use Rattle.fdr_pair.proofs.Sides.{serves_side, facing_side, turned_side, rose_side, no_fault_side, IsRing-same, IsSureRing-same}
 use Rattle.fdr_pair.proofs.one_side.put_on.Given.{Over}
 use Rattle.fdr_pair.proofs.one_side.put_on.Goals.{After-turn}
 use Rattle.fdr_pair.proofs.one_side.put_on.Goals as goal
+use Rattle.fdr_pair.proofs.Nearness.{near_shown}
 use Rattle.fdr_pair.proofs.SideCounts.{counted_turned}
 
 -- the twin's deck, once it is turned to the side
@@ -76,3 +77,11 @@ pub returns-clause-counts : goal.returns-clause-counts
 returns-clause-counts g c =
     counted_turned _ c.args.side _ _ _ (g.met.T.Twin.sound_pair c.args.twin.now) (g.met.T.Twin.sound_pair c.turn.new.self) c.turn.ensures.turns
     (g.met.T.Twin.leaves_rest c.turn.new.self c.put_block.new.deck c.put_block.ensures.rest)
+
+pub returns-clause-near : goal.returns-clause-near
+returns-clause-near g c settled told =
+    let rest = g.met.T.Twin.leaves_rest c.turn.new.self c.put_block.new.deck c.put_block.ensures.rest in
+    let faces = facing_side _ _ c.args.side (g.met.T.Twin.faces c.put_block.new.deck) (rest.turned ∙ c.turn.ensures.turns.turned) in
+    let same = turned g (goal.at.returns-clause-near g c).After-turn in
+    near_shown _ _ _ _ _ _ _ (IsSame-sym _ _ same) faces
+    (c.put_block.ensures.near (λ stops. IsSettled-same _ _ same (settled stops)) (same.announced ∙ told))

@@ -20,7 +20,8 @@ returns-in-Ok g c =
     subst (λ (o : Option Ring). PutsUnlessFailed g.T.Deck.tells c.args.side o (Some c.in-Ok.ring) c.args.session c.args.bytes.now p
     (g.T.Twin.pair c.put_on.new.twin))
     (sym c.in-Some.is)
-    (puts_put _ _ _ _ _ _ _ (g.met.T.Twin.sound_pair c.args.twin.now) room.ring.settled c.put_on.ensures.serves c.put_on.ensures.counts _
+    (puts_put _ _ _ _ _ _ _ (g.met.T.Twin.sound_pair c.args.twin.now) room.ring.settled c.put_on.ensures.serves c.put_on.ensures.counts
+    (c.put_on.ensures.near room.ring.settled) _
     c.in-Ok.ensures.ring.0 c.in-Ok.ensures.ring.1
     c.in-Ok.ensures.no_fault c.in-Ok.ensures.put c.in-Ok.ensures.exact (record { sure = c.in-Ok.ensures.fact; settled = c.in-Ok.ensures.settled }))
 
@@ -33,4 +34,5 @@ returns-in-Err g c =
     let rose : Rose (disk_on c.args.side p).faults (disk_on c.args.side q).faults =
     ⊎_elim (λ ends. absurd (omega (arith, c.in-Err.ensures.seq_end ends, room.bound))) (λ fails. c.in-Err.ensures.cause fails) c.in-Err.ensures.only in
     subst (λ (o : Option Ring). PutsUnlessFailed g.T.Deck.tells c.args.side o None c.args.session c.args.bytes.now p q) (sym c.in-Some.is)
-    (puts_failed _ _ _ _ _ _ _ (g.met.T.Twin.sound_pair c.args.twin.now) room.ring.settled c.put_on.ensures.serves c.put_on.ensures.counts rose)
+    (puts_failed _ _ _ _ _ _ _ (g.met.T.Twin.sound_pair c.args.twin.now) room.ring.settled c.put_on.ensures.serves c.put_on.ensures.counts
+    (c.put_on.ensures.near room.ring.settled) rose)

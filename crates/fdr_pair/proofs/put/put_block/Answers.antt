@@ -1,6 +1,7 @@
 use Rattle.std.proofs.Common.{◌∙◌, ℕ, ap, inr, ◌+◌, subst}
 use Rattle.std.proofs.lemmas.Result.{IfErr-at_err, IfOk-weaker, on_err_weaker}
 use Rattle.fdr_io.specs.Faults.{Rose}
+use Rattle.fdr_pair.proofs.NearDecks.{near_prepared, near_put}
 use Rattle.fdr_pair.proofs.Puts.{exact_by, quiet_prepared, quiet_put_by, put_by}
 use Rattle.fdr_slot.proofs.HeaderLemmas.{in_limits-is}
 use Rattle.fdr_pair.proofs.put.put_block.Goals as goal
@@ -59,3 +60,15 @@ returns-clause-cause g c fails =
 pub returns-clause-rest : goal.returns-clause-rest
 returns-clause-rest g c =
     g.met.D.Deck.rest_then c.args.deck.now c.prepare.new.deck c.commit.new.deck c.prepare.ensures.rest c.commit.ensures.rest
+
+pub returns-in_err-prepared-clause-near : goal.returns-in_err-prepared-clause-near
+returns-in_err-prepared-clause-near g c settled told =
+    near_prepared _ _ _ _ _ _ (g.met.D.Deck.sound c.args.deck.now) (g.met.D.Deck.sound c.prepare.new.deck) settled
+    c.prepare.ensures.changes.disk_work
+
+pub returns-clause-near : goal.returns-clause-near
+returns-clause-near g c settled told =
+    let placed = c.in_ok-prepared.ensures.placed in
+    near_put _ _ _ _ _ _ _ _ _ _ (g.met.D.Deck.sound c.args.deck.now) (g.met.D.Deck.sound c.prepare.new.deck) (g.met.D.Deck.sound c.commit.new.deck)
+    settled c.requires.fact told c.prepare.ensures.changes.disk_work c.prepare.ensures.changes.keeps placed.block placed.settled placed.succeeds
+    c.in_ok-prepared.ensures.prepared.0 c.in_ok-prepared.ensures.prepared.1 c.commit.ensures.changes.disk_work

@@ -2,6 +2,7 @@ use Rattle.std.proofs.Common.{arith}
 use Rattle.fdr_twin.specs.declared.side.Side.TheVariants.{First, Second}
 use Rattle.fdr_pair.proofs.Counting.{counts_block, told_living}
 use Rattle.fdr_pair.proofs.Both.{first_going, second_going, put_ready, ready_left}
+use Rattle.fdr_pair.proofs.Nearness.{near_block}
 use Rattle.fdr_pair.proofs.record.record_block.Goals as goal
 use Rattle.fdr_pair.proofs.KeptSides.{first_block_kept, second_block_kept}
 
@@ -70,3 +71,8 @@ returns-clause-second_kept g c =
     c.announce_living.ensures c.requires.second_ready
     (ready_left g.T.Deck.tells Second c.args.second c.args.next c.args.session c.args.bytes.now old mid c.put_unless_failed-first.ensures.away
     c.requires.second_ready)
+
+pub returns-clause-near : goal.returns-clause-near
+returns-clause-near g c h told first second side =
+    near_block _ h _ _ _ _ _ _ _ _ _ _ _ (g.met.T.Twin.sound_pair c.put_unless_failed-second.new.twin) c.put_unless_failed-first.ensures
+    c.put_unless_failed-second.ensures c.announce_living.ensures told first second side
