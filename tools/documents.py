@@ -16,8 +16,8 @@ The check wants:
 - the pages of docs/clauses, and the marked parts, to be as the source says, and each contract that was read to be whole;
 - each public definition of specs/ to have a comment that stands by itself, and its crate to be in one page of docs/model;
 - docs/MODEL.md to name the recursive definitions, and to begin at none of which the contract of `run` doesn't speak;
-- each name in `these marks` of docs/COMMANDS.md, docs/GUARANTEES.md, docs/LAYERS.md, docs/MEANING.md, docs/MODEL.md and
-  docs/model to be one of the source, and each clause in a row of docs/LAYERS.md to be one of the calls that the row names;
+- each name in `these marks` of docs/COMMANDS.md, docs/GUARANTEES.md, docs/MEANING.md, docs/MODEL.md and docs/model to be one of
+  the source;
 - README.md to say of how many definitions the contract of `run` speaks, and to show of a case of examples/cases what the case
   has;
 - the crates' edges in docs/ARCHITECTURE.md to be those of crates.txt, and the files in its last table to be there;
@@ -47,7 +47,7 @@ from collections.abc import Iterable, Iterator
 
 sys.dont_write_bytecode = True
 
-from sources.contracts import clauses, faults_of_contracts, functions, public_calls
+from sources.contracts import faults_of_contracts, functions, public_calls
 from sources.crates import crate_lines, crate_names, source_files
 from sources.definitions import Key, all_definitions, by_key, imports, is_recursive, names_in, reached_from
 from sources.differences import differences_from
@@ -67,7 +67,6 @@ MOST_COLUMNS = 160
 MOST_COMMENT_COLUMNS = 130
 MOST_LINES = 299
 MOST_LINES_IN_ALL = 999
-Known = tuple[str, str | None, str, set[str]]  # a public function: its crate, its owner or none, its name, its `ensures` clauses
 OUTSIDE = {"TABLE", "IMAGE", "flock"}
 
 
@@ -275,7 +274,7 @@ def check_guarantees() -> Iterator[str]:
             known.update(re.findall(r"[A-Za-z_]\w*", path.read_text()))
             fields.update(re.findall(r"^ +pub (\w+) :", path.read_text(), flags=re.M))
         known.update(path.stem for path in (CRATES / crate / "must-fail").glob("*.edit"))
-    for path in [TOP / "docs" / "COMMANDS.md", TOP / "docs" / "GUARANTEES.md", TOP / "docs" / "LAYERS.md", MEANING, *model_pages()]:
+    for path in [TOP / "docs" / "COMMANDS.md", TOP / "docs" / "GUARANTEES.md", MEANING, *model_pages()]:
         page = path.relative_to(TOP)
         text = re.sub(r"```.*?```", lambda m: "\n" * m.group().count("\n"), path.read_text(), flags=re.S)
         for number, line in enumerate(text.splitlines(), 1):
@@ -288,62 +287,6 @@ def check_guarantees() -> Iterator[str]:
                 for name in re.findall(r"\w+", mark):
                     if name not in known:
                         yield f"{page}:{number}: nothing is named `{name}`"
-
-
-def clauses_of_calls() -> Iterator[Known]:
-    """Each public function: its crate, its owner or none, its name, and the names of its `ensures` clauses."""
-    for crate in crate_names(TOP):
-        for call in public_calls(TOP, crate):
-            yield crate, call.owner, call.name, {clause.name for clause in clauses(call.contract) if clause.kind == "ensures"}
-
-
-def calls_in(cell: str, known: list[Known]) -> Iterator[tuple[str, list[set[str]]]]:
-    """The calls that a cell names: each mark with the clauses of the functions that it may be.
-
-    `T::f` is that of a type or trait, `f` of the same one where it has such a call and else a function of none, `T` all
-    of its calls. The mark of a crate says where the call of the cell stands."""
-    marks = re.findall(r"`([\w:]+)`", cell)
-    crates = {mark for mark in marks if mark.startswith("fdr_")}
-    owner = None
-    for mark in [mark for mark in marks if mark not in crates]:
-        before, _, name = mark.rpartition("::")
-        if mark[:1].isupper() and not before:
-            yield mark, [clauses for _, whose, _, clauses in known if whose == mark]
-            continue
-        owner = before or owner
-        same = [call for call in known if call[2] == name and (not crates or call[0] in crates)]
-        of_owner = [clauses for _, whose, _, clauses in same if whose == owner]
-        yield mark, of_owner or [clauses for _, whose, _, clauses in same if not whose and not before]
-
-
-def rows_of_calls(text: str) -> Iterator[tuple[int, str, list[str]]]:
-    """The rows of a page's tables whose first column is of calls and whose last is of clauses: line, calls, clauses."""
-    within = False
-    for number, line in enumerate(text.splitlines(), 1):
-        cells = [cell.strip() for cell in line.strip("|").split("|")]
-        if not line.startswith("|"):
-            within = False
-        elif (cells[0], cells[-1]) == ("call", "clauses"):
-            within = True
-        elif within and not line.startswith("|---"):
-            yield number, cells[0], re.findall(r"`(\w+)`", cells[-1])
-
-
-def check_layers() -> Iterator[str]:
-    """Each clause in a row of LAYERS.md is one of the calls that the row names, and each of these has one of them."""
-    known = list(clauses_of_calls())
-    for number, cell, clauses in rows_of_calls((TOP / "docs" / "LAYERS.md").read_text()):
-        found = set()
-        for mark, same in calls_in(cell, known):
-            its = set().union(*same)
-            found |= its
-            if not same:
-                yield f"docs/LAYERS.md:{number}: there is no call `{mark}`"
-            elif clauses and not its & set(clauses):
-                yield f"docs/LAYERS.md:{number}: `{mark}` has none of these clauses"
-        for clause in clauses:
-            if clause not in found:
-                yield f"docs/LAYERS.md:{number}: none of the calls has a clause `{clause}`"
 
 
 def check_edges() -> Iterator[str]:
@@ -619,7 +562,7 @@ def write() -> None:
 def check() -> int:
     """Prints the faults and the notes, and answers the status to end with."""
     checks = (
-        *(check_readme, check_session, check_clauses, check_contracts, check_model, check_recursive, check_guarantees, check_layers),
+        *(check_readme, check_session, check_clauses, check_contracts, check_model, check_recursive, check_guarantees),
         *(check_edges, check_places, check_commands, check_manual, check_usage, check_version, check_kit, check_links, check_paths),
         *(check_paragraphs, check_lengths, check_names, check_columns, check_crates),
     )
