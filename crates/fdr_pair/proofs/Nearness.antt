@@ -1,5 +1,5 @@
 -- What is on the sides of a twin, and how far it is ahead of what is announced.
-use Rattle.std.proofs.Common.{◌≡◌, ⊎_elim, ℕ, ◌+◌, ◌≤◌, List, refl, sym, ◌∙◌, ap, subst, arith, Option, Some, None}
+use Rattle.std.proofs.Common.{◌≡◌, ℕ, ◌+◌, ◌≤◌, List, sym, ◌∙◌, ap, arith, Option, Some, None}
 use Rattle.std.specs.Prelude.{IsTrue}
 use Rattle.fdr_deck.specs.State.{State, Tells}
 use Rattle.fdr_slot.specs.declared.image.Header.{Header}
@@ -8,7 +8,7 @@ use Rattle.fdr_recorder.specs.Recording.{IsClose}
 use Rattle.fdr_ring.specs.declared.ring.Ring.{Ring}
 use Rattle.fdr_twin.specs.declared.side.Side.{Side}
 use Rattle.fdr_twin.specs.declared.side.Side.TheVariants.{First, Second}
-use Rattle.fdr_twin.specs.Pair.{Pair, disk_on, image_on, seen}
+use Rattle.fdr_twin.specs.Pair.{Pair, disk_on, seen}
 use Rattle.fdr_twin.specs.Same.{IsSameState}
 use Rattle.fdr_twin.specs.Rest.{PairElapses}
 use Rattle.fdr_twin.specs.RestSound.{PairElapses-then}
