@@ -6,7 +6,7 @@ PROGRAM = crates/fdr_prog
 PAIR_PROGRAM = crates/fdr_pair_prog
 SOURCES = crates.txt $(shell find crates -name out -prune -o -type f \( -name '*.rt' -o -name '*.antt' \) -print)
 
-.PHONY: build demo check walk compare laws streams crash-test live-test power-test fleet-test check-real check-memory fail-io calls count verify bench tools-test drawn-dumps undamaged test install stage install-tools dist dist-test clean help
+.PHONY: build demo check walk compare laws streams crash-test live-test power-test fleet-test check-real check-memory fail-io calls count verify wrong-bodies bench tools-test drawn-dumps undamaged test install stage install-tools dist dist-test clean help
 
 # Proves both programs and everything below them, and puts them at bin/fdr and bin/fdrpair.
 # After `make test` they are there already.
@@ -119,6 +119,10 @@ drawn-dumps: build
 # Draws a million frames that nothing damaged, of which no tool may take one for doubtful: half a minute.
 undamaged: build
 	FDR=bin/fdr tests/flight/undamaged.py 1000000
+
+# Tries the wrong bodies that the gate leaves out, each of which the check has to refuse: an hour or more.
+wrong-bodies: build
+	tests/wrong_bodies.py
 
 # The gate: every proof, must-fail edit, test and program, and the tests of the tools.
 test:

@@ -73,6 +73,7 @@ def parts(fdr: str, pair: str) -> Iterator[Part]:
     yield Part("`make fleet-test`", ["tests/fleet.py", fdr], r"^(\d+ cases of fleets): ")
     yield Part("`make drawn-dumps`", ["tests/drawn_dumps.py"], r"^(\d+ dumps and .* wrong)")
     yield Part("`make undamaged`", ["tests/flight/undamaged.py", "1000000"], r"^(\d+ undamaged frames) in .*marked$")
+    yield Part("`make wrong-bodies`", ["tests/wrong_bodies.py"], r"^wrong bodies: (\d+ of \d+ refused)$", ("rt",))
     yield Part("`make demo`", ["make", "demo"], r"^(cases=\d+ .*no-answer=\d+)", ("rt",))
     yield Part("`make tools-test`", ["tests/flight/run"], r"^(.*\bpassed\b.*) in ")
 

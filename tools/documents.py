@@ -26,7 +26,7 @@ The check wants:
 - what the programs write in front of their usage to have these forms, and the version;
 - README.md, CHANGELOG.md, CITATION.cff and docs/fdr.1 to name the version of VERSION, the last three with one date; README.md
   and docs/GUARANTEES.md to name the logic of the kit that is here;
-- each crate that a page or a source names to be there;
+- each crate that a page or a source names to be there, and each wrong body of tests/wrong_bodies to fit its crate;
 - each link to lead to a file and heading, and each path from the top that a page or a script names to be there;
 - each paragraph of a page to be one line, and each page to have fewer than 300 that are written by hand, and fewer than 1,000
   in all but for those of docs/clauses;
@@ -54,6 +54,7 @@ from sources.differences import differences_from
 
 TOP = pathlib.Path(__file__).resolve().parent.parent
 CRATES = TOP / "crates"
+WRONG_BODIES = TOP / "tests" / "wrong_bodies"
 CLAUSES = TOP / "docs" / "clauses"
 MODEL = TOP / "docs" / "model"
 DEFINITIONS_OF = r"^<!-- definitions of (\w+) -->$"
@@ -273,7 +274,8 @@ def check_guarantees() -> Iterator[str]:
         for path in (CRATES / crate / "specs").glob("*.antt"):
             known.update(re.findall(r"[A-Za-z_]\w*", path.read_text()))
             fields.update(re.findall(r"^ +pub (\w+) :", path.read_text(), flags=re.M))
-        known.update(path.stem for path in (CRATES / crate / "must-fail").glob("*.edit"))
+        for folder in (CRATES / crate / "must-fail", WRONG_BODIES / crate):
+            known.update(path.stem for path in folder.glob("*.edit"))
     for path in [TOP / "docs" / "COMMANDS.md", TOP / "docs" / "GUARANTEES.md", MEANING, *model_pages()]:
         page = path.relative_to(TOP)
         text = re.sub(r"```.*?```", lambda m: "\n" * m.group().count("\n"), path.read_text(), flags=re.S)
@@ -391,11 +393,29 @@ def check_crates() -> Iterator[str]:
     """The crates that a page or a source names are there."""
     known = set(crate_names(TOP))
     sources = [path for folder in ("src", "specs", "proofs", "must-fail") for path in CRATES.glob(f"*/{folder}/**/*.*")]
-    for path in [*written_pages(), *sorted(sources)]:
+    for path in [*written_pages(), *sorted(sources), *sorted(WRONG_BODIES.glob("*/*.*"))]:
         for number, line in enumerate(path.read_text().splitlines(), 1):
             for name in re.findall(r"\bfdr_[a-z_]*[a-z]\b", line):
                 if name not in known:
                     yield f"{path.relative_to(TOP)}:{number}: there is no crate {name}"
+
+
+def check_wrong_bodies() -> Iterator[str]:
+    """Each wrong body that the gate leaves out fits its crate: a text that it changes is once in its file."""
+    for path in sorted(WRONG_BODIES.glob("*/*.edit")):
+        file, text, old = path, "", ""
+        for line in path.read_text().splitlines():
+            key, _, said = line.partition(":")
+            said = said.removeprefix(" ")
+            if key == "file":
+                file = CRATES / path.parent.name / said
+                text = file.read_text() if file.is_file() else ""
+            elif key == "old":
+                old = said
+                if text.count(old) != 1:
+                    yield f"{path.relative_to(TOP)}: a text that it changes is {text.count(old)} times in {file.relative_to(TOP)}"
+            elif key == "new":
+                text = text.replace(old, said)
 
 
 def anchors(path: pathlib.Path) -> Iterator[str]:
@@ -564,7 +584,7 @@ def check() -> int:
     checks = (
         *(check_readme, check_session, check_clauses, check_contracts, check_model, check_recursive, check_guarantees),
         *(check_edges, check_places, check_commands, check_manual, check_usage, check_version, check_kit, check_links, check_paths),
-        *(check_paragraphs, check_lengths, check_names, check_columns, check_crates),
+        *(check_paragraphs, check_lengths, check_names, check_columns, check_crates, check_wrong_bodies),
     )
     faults = [fault for one in checks for fault in one()]
     for note in (*note_kit(), *note_uses()):
