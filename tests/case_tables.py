@@ -455,6 +455,28 @@ def damaged_heads() -> Iterator[str]:
         yield line(f"N={at}..{at + 16} b.img = @a.img 1=00 N=5a; fdr list altitude.csv b.img", blocks_of(at, blocks))
 
 
+SALVAGED = """
+case what is salvaged is what the heads say
+# Slots 0 to 3 hold blocks 4, 5, 2 and 3.
+block = 5a000040 00000001 00*72
+a.img = 5aa5 4644523731 37 00000004 00000040 00000040 00*44
+  @block @block @block @block 79=04 159=05 239=02 319=03
+"""
+
+
+def salvaged_heads() -> Iterator[str]:
+    yield SALVAGED
+    _, *lines = list(lines_of(SALVAGED))
+    tokens = next(f"{head.partition(' =')[2]} {body}" for head, body in lines if head.startswith("a.img"))
+    image = bytes_of({"block": bytes.fromhex("5a000040000000010000000000000000") + bytes(64)}, tokens)
+    for slot in range(4):
+        at = 64 + 80 * slot
+        for byte in ("00", "5a"):
+            images = [patched(image, place, bytes.fromhex(byte)) for place in range(at, at + 16)]
+            blocks = [said(by_reader("salvage altitude.csv a.img", other)) for other in images]
+            yield line(f"N={at}..{at + 16} b.img = @a.img N={byte}; fdr salvage altitude.csv b.img", blocks_of(at, blocks))
+
+
 # --- a ring of a thousand slots
 
 LARGE = drill_of("a drill of ten frames in a ring of a thousand slots", 7, 10, 1024, 4096)
@@ -524,7 +546,12 @@ def heads() -> Iterator[str]:
     yield from damaged_heads()
 
 
-FILES = {"stops.cases": stops, "stops_round.cases": stops_round, "stops_behind.cases": stops_behind, "faults.cases": faults, "large.cases": large, "heads.cases": heads}
+def salvaged() -> Iterator[str]:
+    yield "# Written by tests/case_tables.py: what is salvaged is had from tests/reader.py.\n"
+    yield from salvaged_heads()
+
+
+FILES = {"stops.cases": stops, "stops_round.cases": stops_round, "stops_behind.cases": stops_behind, "faults.cases": faults, "large.cases": large, "heads.cases": heads, "salvaged.cases": salvaged}
 
 
 def main() -> int:

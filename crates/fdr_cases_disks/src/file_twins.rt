@@ -1,237 +1,195 @@
 //! The twin over two files.
 
+use crate::calls::{Call, DONE, FAILED, Given};
 use crate::fakes::OtherFolder;
 use crate::on_disk::{has_at, put, remove};
-use fdr_adapters::{FileTwin, image_over, twin_over};
-use fdr_deck::Deck;
-use fdr_io::Failed;
+use crate::twins::{SideStep, gives_by_side};
+use fdr_adapters::{StorageTwin, image_over, twin_over};
+use fdr_storage::{Named, Stream};
 use fdr_twin::{Side, Twin};
 use std::fs::File;
-use std::io::{ErrorKind, Write, sink};
+use std::io::{ErrorKind, Write};
 use std::process::Abort;
 use std::rt::Files;
 
-// The calls of a twin are in functions without clauses, so that the tests are proved without those of a twin.
-
-fn store<T: Twin>(twin: &mut T, side: Side, byte: u8) -> Result<[u8; 3], Failed> {
-    twin.turn(side);
-    if twin.size()? < 100 {
-        return Err(Failed);
-    }
-    twin.write(50, &[byte])?;
-    twin.sync()?;
-    let mut bytes = [9; 3];
-    twin.read(49, &mut bytes)?;
-    Ok(bytes)
-}
-
-/// A call of a disk.
-#[derive(Clone, Copy, Debug)]
-enum Call {
-    Size,
-    Provide,
-    Read,
-    Write,
-    Sync,
-}
-
-fn make<T: Twin>(twin: &mut T, side: Side, call: Call) -> Result<(), Failed> {
-    twin.turn(side);
-    match call {
-        Call::Size => twin.size().map(|_| ()),
-        Call::Provide => twin.provide(100),
-        Call::Read => twin.read(0, &mut []),
-        Call::Write => twin.write(0, &[]),
-        Call::Sync => twin.sync(),
-    }
-}
-
-fn announce_some<D: Deck>(deck: &mut D) {
-    deck.announce(3);
-}
-
-fn pull_some<D: Deck>(deck: &mut D) -> Result<(usize, [u8; 2]), Failed> {
-    let mut buf = [0; 2];
-    let n = deck.pull(&mut buf)?;
-    Ok((n, buf))
-}
-
-// Whether each side keeps a byte of its own, and the line is pulled.
-fn keeps_both<T: Twin>(twin: &mut T) -> bool {
-    store(twin, Side::First, 7) == Ok([0, 7, 0])
-        && store(twin, Side::Second, 8) == Ok([0, 8, 0])
-        && pull_some(twin) == Ok((2, *b"ab"))
-}
-
-// Whether the second side fails from now on, and the first goes on.
-fn goes_on_with_the_first<T: Twin>(twin: &mut T) -> bool {
-    store(twin, Side::Second, 9) == Err(Failed)
-        && store(twin, Side::Second, 9) == Err(Failed)
-        && store(twin, Side::First, 9) == Ok([0, 9, 0])
-}
-
-// Whether a call fails, and again.
-fn fails_twice<T: Twin>(twin: &mut T, side: Side, call: Call) -> bool {
-    make(twin, side, call) == Err(Failed) && make(twin, side, call) == Err(Failed)
-}
-
-// The twin over two files, with a line.
-fn twin_at<'a, R: Files<File = File>, A: Write + Drop>(
-    rt: &'a R,
+/// Two files, of which the second may become shorter between two calls of a twin over them.
+#[derive(Clone, Copy)]
+struct Case<'a> {
     first: &'a str,
     second: &'a str,
-    line: &'static [u8],
-    acknowledgements: A,
-) -> FileTwin<'a, R, &'static [u8], A> {
-    let first = image_over(rt, first, true);
-    let second = image_over(rt, second, true);
-    twin_over(first, second, line, acknowledgements)
+    steps: &'a [SideStep<'a>],
+    is_cut: bool,
+    then: &'a [SideStep<'a>],
+    /// What the twin says, and why a call of each side did nothing, where that was no fault.
+    said: &'a [u8],
+    why: (Option<ErrorKind>, Option<ErrorKind>),
 }
 
-// Puts 100 zeros into each of two files.
-fn put_zeros(rt: &(impl Files + Abort), first: &str, second: &str) {
-    put(rt, first, &[0; 100]);
-    put(rt, second, &[0; 100]);
+/// Whether the calls of the twin are answered so.
+fn answers<T: Twin>(rt: &(impl Files + Abort), twin: &mut T, case: &Case<'_>) -> bool {
+    let is_begun = gives_by_side(twin, case.steps);
+    if case.is_cut {
+        put(rt, case.second, b"abc");
+    }
+    is_begun && gives_by_side(twin, case.then)
 }
 
-fn remove_both(rt: &(impl Files + Abort), first: &str, second: &str) {
-    remove(rt, first);
-    remove(rt, second);
+/// The same, with the causes.
+fn passes<S: Named + Drop, I: Stream + Drop, A: Write + Drop>(
+    rt: &(impl Files + Abort),
+    twin: StorageTwin<S, I, A>,
+    case: &Case<'_>,
+) -> bool {
+    let mut twin = twin;
+    answers(rt, &mut twin, case) && (twin.why(Side::First), twin.why(Side::Second)) == case.why
 }
 
-// Records on both files.
-fn record_on_both(rt: &(impl Files<File = File> + Abort), first: &str, second: &str) {
-    let mut twin = twin_at(rt, first, second, b"ab", sink());
-    assert!(rt; keeps_both(&mut twin));
+/// Whether all is as the case says, on these files.
+fn is_so(
+    rt: &(impl Files<File = File> + AllocGlobal + Abort),
+    files: &impl Files<File = File>,
+    case: &Case<'_>,
+) -> bool {
+    let mut said = Vec::new(rt.alloc());
+    let first = image_over(files, case.first, true);
+    let second = image_over(files, case.second, true);
+    let twin = twin_over(first, second, b"abc".as_slice(), &mut said);
+    passes(rt, twin, case) && said.as_slice() == case.said
+}
+
+/// Two files that stay whole, and nothing is said.
+const CASE: Case<'static> = Case {
+    first: "first.img",
+    second: "second.img",
+    steps: &[],
+    is_cut: false,
+    then: &[],
+    said: b"",
+    why: (None, None),
+};
+
+/// Bytes that each side keeps, and a pull.
+const KEPT: Case<'static> = Case {
+    steps: &[
+        (Side::First, Call::Write(50, &[7]), DONE),
+        (Side::First, Call::Sync, DONE),
+        (Side::First, Call::Read(49), Ok(Given::Bytes([0, 7, 0, 0]))),
+        (Side::Second, Call::Write(50, &[8]), DONE),
+        (Side::Second, Call::Sync, DONE),
+        (Side::Second, Call::Read(49), Ok(Given::Bytes([0, 8, 0, 0]))),
+        (Side::Second, Call::Pull, Ok(Given::Pulled(3, *b"abc"))),
+    ],
+    ..CASE
+};
+
+/// The first side goes on alone, where the second became shorter.
+const CUT: Case<'static> = Case {
+    steps: &[
+        (Side::Second, Call::Write(50, &[8]), DONE),
+        (Side::Second, Call::Sync, DONE),
+    ],
+    is_cut: true,
+    then: &[
+        (Side::Second, Call::Write(50, &[9]), FAILED),
+        (Side::Second, Call::Write(50, &[9]), FAILED),
+        (Side::First, Call::Write(50, &[9]), DONE),
+        (Side::First, Call::Sync, DONE),
+        (Side::First, Call::Read(49), Ok(Given::Bytes([0, 9, 0, 0]))),
+        (Side::First, Call::Announce(3), DONE),
+    ],
+    said: b"fdrpair: second.img: became shorter\nfault second\nack 3\n",
+    ..CASE
+};
+
+/// A file that is missing is no fault.
+const MISSING: Case<'static> = Case {
+    second: "missing.img",
+    steps: &[
+        (Side::First, Call::Size, Ok(Given::Size(100))),
+        (Side::Second, Call::Size, Ok(Given::Size(0))),
+    ],
+    why: (None, Some(ErrorKind::NotFound)),
+    ..CASE
+};
+
+/// Whether the first file has this byte at its place, and the second that one.
+fn have(rt: &(impl Files + AllocGlobal + Abort), first: u8, second: u8) -> bool {
+    has_at(rt, CASE.first, 50, &[first]) && has_at(rt, CASE.second, 50, &[second])
+}
+
+/// Whether all is so of two files that are there.
+fn are_files(rt: &(impl Files<File = File> + AllocGlobal + Abort)) -> bool {
+    is_so(rt, rt, &KEPT) && have(rt, 7, 8) && is_so(rt, rt, &CUT) && is_so(rt, rt, &MISSING)
 }
 
 #[test]
 fn each_side_is_a_file(rt: HostRuntime) {
-    put_zeros(&rt, "first.img", "second.img");
-    record_on_both(&rt, "first.img", "second.img");
-    assert!(rt; has_at(&rt, "first.img", 50, &[7]) && has_at(&rt, "second.img", 50, &[8]));
-    remove_both(&rt, "first.img", "second.img");
+    put(&rt, CASE.first, &[0; 100]);
+    put(&rt, CASE.second, &[0; 100]);
+    assert!(rt; are_files(&rt));
+    remove(&rt, CASE.first);
+    remove(&rt, CASE.second);
 }
 
-// Whether the first side goes on alone, where the second file becomes shorter after it was written.
-fn goes_on_alone<T: Twin>(rt: &(impl Files + Abort), second: &str, twin: &mut T) -> bool {
-    let is_stored = store(twin, Side::Second, 8).is_ok();
-    put(rt, second, b"abc");
-    let goes_on = goes_on_with_the_first(twin);
-    announce_some(twin);
-    is_stored && goes_on
-}
+/// The calls of a disk.
+const CALLS: &[Call<'static>] = &[
+    Call::Size,
+    Call::Provide(100),
+    Call::ReadNothing,
+    Call::WriteNothing,
+    Call::Sync,
+];
 
-// Records on two files, of which the second becomes shorter after its length was learned.
-fn record_on_the_first(
-    rt: &(impl Files<File = File> + Abort),
-    first: &str,
-    second: &str,
-    lines: &mut Vec<u8>,
-) {
-    let mut twin = twin_at(rt, first, second, b"", lines);
-    assert!(rt; goes_on_alone(rt, second, &mut twin));
-}
-
-#[test]
-fn a_side_goes_on_alone(rt: HostRuntime) {
-    put_zeros(&rt, "whole.img", "short.img");
-    let mut lines = Vec::new(rt.alloc());
-    record_on_the_first(&rt, "whole.img", "short.img", &mut lines);
-    assert!(rt;
-        lines.as_slice() == b"fdrpair: short.img: became shorter\nfault second\nack 3\n".as_slice()
-    );
-    remove_both(&rt, "whole.img", "short.img");
-}
-
-// Makes a call of a side twice, where both images are folders.
-fn ask_a_folder(
-    rt: &(impl Files<File = File> + Abort),
-    side: Side,
-    call: Call,
-    lines: &mut Vec<u8>,
-) {
-    let mut twin = twin_at(rt, ".", ".", b"", lines);
-    assert!(rt; fails_twice(&mut twin, side, call));
-    assert!(rt; twin.why(Side::First).is_none() && twin.why(Side::Second).is_none());
-}
+/// Each side, and what is said of it where it is a folder.
+const FOLDERS: &[(Side, &[u8])] = &[
+    (Side::First, b"fdrpair: .: is a folder\nfault first\n"),
+    (Side::Second, b"fdrpair: .: is a folder\nfault second\n"),
+];
 
 #[test]
 fn each_call_that_fails_is_told_of_its_side_once(rt: HostRuntime) {
-    for call in [
-        Call::Size,
-        Call::Provide,
-        Call::Read,
-        Call::Write,
-        Call::Sync,
-    ] {
-        let mut lines = Vec::new(rt.alloc());
-        ask_a_folder(&rt, Side::First, call, &mut lines);
-        assert!(rt;
-            lines.as_slice() == b"fdrpair: .: is a folder\nfault first\n".as_slice(),
-            "{call:?} of the first"
-        );
-        let mut lines = Vec::new(rt.alloc());
-        ask_a_folder(&rt, Side::Second, call, &mut lines);
-        assert!(rt;
-            lines.as_slice() == b"fdrpair: .: is a folder\nfault second\n".as_slice(),
-            "{call:?} of the second"
-        );
+    for call in CALLS {
+        for &(side, said) in FOLDERS {
+            let step = (side, *call, FAILED);
+            let case = Case {
+                first: ".",
+                second: ".",
+                steps: &[step, step],
+                said,
+                ..CASE
+            };
+            assert!(rt; is_so(&rt, &rt, &case));
+        }
     }
 }
 
-// Whether the length of each side is answered.
-fn are_measured<T: Twin>(twin: &mut T) -> bool {
-    make(twin, Side::First, Call::Size).is_ok() && make(twin, Side::Second, Call::Size).is_ok()
-}
+/// A folder that isn't there and one that is no folder, and what is said of the first side, whose name can't be synced in it.
+const OTHER_FOLDERS: &[(&str, &[u8])] = &[
+    (
+        "missing",
+        b"fdrpair: first.img: no such file\nfault first\n",
+    ),
+    (
+        "/dev/null",
+        b"fdrpair: first.img: is no file\nfault first\n",
+    ),
+];
 
-// Measures two files, of which the second isn't there.
-fn measure_both(
-    rt: &(impl Files<File = File> + Abort),
-    first: &str,
-    second: &str,
-    lines: &mut Vec<u8>,
-) -> (Option<ErrorKind>, Option<ErrorKind>) {
-    let mut twin = twin_at(rt, first, second, b"", lines);
-    assert!(rt; are_measured(&mut twin));
-    (twin.why(Side::First), twin.why(Side::Second))
-}
+/// A first sync of a file, which is one of its name too.
+const SYNC: Case<'static> = Case {
+    steps: &[
+        (Side::First, Call::WriteNothing, DONE),
+        (Side::First, Call::Sync, FAILED),
+    ],
+    ..CASE
+};
 
-#[test]
-fn a_file_that_is_missing_is_no_fault(rt: HostRuntime) {
-    put(&rt, "there.img", &[0; 100]);
-    let mut lines = Vec::new(rt.alloc());
-    let causes = measure_both(&rt, "there.img", "missing.img", &mut lines);
-    assert!(rt; causes == (None, Some(ErrorKind::NotFound)) && lines.is_empty());
-    remove(&rt, "there.img");
-}
-
-// Whether the first side can be written, and synced.
-fn write_and_sync<T: Twin>(twin: &mut T) -> (bool, bool) {
-    let is_written = make(twin, Side::First, Call::Write).is_ok();
-    let is_synced = make(twin, Side::First, Call::Sync).is_ok();
-    (is_written, is_synced)
-}
-
-// Whether the first of two files can be written, and synced, where its folder is another file.
-fn sync_in_another_folder<R: Files<File = File>>(files: &R, lines: &mut Vec<u8>) -> (bool, bool) {
-    let mut twin = twin_at(files, "named.img", "other.img", b"", lines);
-    write_and_sync(&mut twin)
-}
-
-// The first sync of a file is one of its name too.
 #[test]
 fn a_sync_that_is_not_whole_is_a_fault(rt: HostRuntime) {
-    put_zeros(&rt, "named.img", "other.img");
-    let missing = b"fdrpair: named.img: no such file\nfault first\n".as_slice();
-    let no_folder = b"fdrpair: named.img: is no file\nfault first\n".as_slice();
-    for (folder, said) in [("missing", missing), ("/dev/null", no_folder)] {
-        let files = OtherFolder::new(&rt, folder);
-        let mut lines = Vec::new(rt.alloc());
-        assert!(rt;
-            sync_in_another_folder(&files, &mut lines) == (true, false) && lines.as_slice() == said,
-            "{folder}"
-        );
+    put(&rt, CASE.first, &[0; 100]);
+    for &(folder, said) in OTHER_FOLDERS {
+        let case = Case { said, ..SYNC };
+        assert!(rt; is_so(&rt, &OtherFolder::new(&rt, folder), &case));
     }
-    remove_both(&rt, "named.img", "other.img");
+    remove(&rt, CASE.first);
 }

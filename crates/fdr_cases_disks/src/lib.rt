@@ -1,7 +1,9 @@
 //! Worked calls of sources, sinks, disks and twins in memory and over real files: what they give, what fails, and what a stop leaves.
-//! Worked images on such disks: their headers and heads, their blocks and runs, and blocks in a ring.
+//! The header of an image of version 1, and a block in a ring that is found again.
 #![tactic(auto)]
 
+#[cfg(test)]
+mod calls;
 #[cfg(test)]
 mod disks;
 #[cfg(test)]
@@ -17,13 +19,7 @@ mod image_files;
 #[cfg(test)]
 mod on_disk;
 #[cfg(test)]
-mod pulled_inputs;
-#[cfg(test)]
-mod recovered_runs;
-#[cfg(test)]
 mod rings;
-#[cfg(test)]
-mod salvaged_runs;
 #[cfg(test)]
 mod sources;
 #[cfg(test)]

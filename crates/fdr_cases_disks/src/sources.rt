@@ -50,16 +50,28 @@ fn listed_reads_fail_and_take_nothing(rt: HostRuntime) {
     assert!(rt; gives(&mut source, FAILING_READS) && gives(&mut sure, SURE_READS));
 }
 
+// Whether the second of three writes fails and keeps nothing.
+fn keeps_two(sink: &mut MemSink) -> bool {
+    write_whole(sink, b"ab") == Ok(())
+        && write_whole(sink, b"cd") == Err(Failed)
+        && write_whole(sink, b"ef") == Ok(())
+        && sink.bytes() == b"abef".as_slice()
+}
+
 #[test]
 fn listed_writes_fail_and_keep_nothing(rt: HostRuntime) {
     let mut sink = sink_of(&rt, &[1]);
-    assert!(rt;
-        write_whole(&mut sink, b"ab") == Ok(())
-            && write_whole(&mut sink, b"cd") == Err(Failed)
-            && write_whole(&mut sink, b"ef") == Ok(())
-            && sink.bytes() == b"abef".as_slice()
-            && write_whole(&mut NullSink::new(), b"ab") == Ok(())
-    );
+    assert!(rt; keeps_two(&mut sink) && write_whole(&mut NullSink::new(), b"ab") == Ok(()));
+}
+
+// Whether what waits goes out where these bytes have no room beside it.
+fn goes_out(output: &mut OutBuffer, sink: &mut MemSink, large: &[u8]) -> bool {
+    output.add(sink, b"one ") == Ok(())
+        && sink.bytes().is_empty()
+        && output.add(sink, large) == Ok(())
+        && sink.bytes() == b"one ".as_slice()
+        && output.finish(sink) == Ok(())
+        && sink.bytes().len() == 65539
 }
 
 #[test]
@@ -67,28 +79,26 @@ fn buffered_output_goes_out_in_large_pieces(rt: HostRuntime) {
     let mut sink = sink_of(&rt, &[]);
     let mut output = output_of(&rt);
     let large = vec![in rt.alloc(); 7u8; 65535].expect(&rt, "the bytes");
-    assert!(rt;
-        output.add(&mut sink, b"one ") == Ok(())
-            && sink.bytes().is_empty()
-            && output.add(&mut sink, &large) == Ok(())
-            && sink.bytes() == b"one ".as_slice()
-            && output.finish(&mut sink) == Ok(())
-            && sink.bytes().len() == 65539
-    );
+    assert!(rt; goes_out(&mut output, &mut sink, &large));
+}
+
+// Whether texts wait, until there is room to be made.
+fn puts_texts(output: &mut OutBuffer, sink: &mut MemSink) -> bool {
+    if output.make_room(sink, 64) != Ok(()) {
+        return false;
+    }
+    output.put_three((b"one more", 3), (b", ", 2), (b"two and no more", 3));
+    output.put_three((b"!", 0), (b"none", 0), (b"?", 1));
+    output.put(b" three more", 6);
+    output.put_all(b", four");
+    sink.bytes().is_empty()
+        && output.make_room(sink, 65536) == Ok(())
+        && sink.bytes() == b"one, two? three, four".as_slice()
 }
 
 #[test]
 fn texts_come_one_after_another(rt: HostRuntime) {
     let mut sink = sink_of(&rt, &[]);
     let mut output = output_of(&rt);
-    assert!(rt; output.make_room(&mut sink, 64) == Ok(()));
-    output.put_three((b"one more", 3), (b", ", 2), (b"two and no more", 3));
-    output.put_three((b"!", 0), (b"none", 0), (b"?", 1));
-    output.put(b" three more", 6);
-    output.put_all(b", four");
-    assert!(rt;
-        sink.bytes().is_empty()
-            && output.make_room(&mut sink, 65536) == Ok(())
-            && sink.bytes() == b"one, two? three, four".as_slice()
-    );
+    assert!(rt; puts_texts(&mut output, &mut sink));
 }
